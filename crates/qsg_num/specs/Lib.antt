@@ -1,0 +1,4 @@
+pub mod Seats
+pub mod Ids
+pub mod Names
+pub mod Faults
