@@ -1,0 +1,9 @@
+pub mod Costs
+pub mod Lookups
+pub mod Revising
+pub mod Appending
+pub mod Places
+pub mod Rooms
+pub mod Takes
+pub mod Found
+pub mod First
