@@ -1,0 +1,4 @@
+pub mod Prefix
+pub mod Spelling
+pub mod Reading
+pub mod Decoding

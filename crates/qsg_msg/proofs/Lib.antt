@@ -1,0 +1,5 @@
+pub mod Passing
+pub mod Forms
+pub mod FieldForms
+pub mod Messages
+pub mod Decoded
