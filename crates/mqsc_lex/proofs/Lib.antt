@@ -1,0 +1,6 @@
+pub mod Cuts
+pub mod Quoted
+pub mod Extend
+pub mod Unique
+pub mod Inside
+pub mod Leftmost

@@ -1,0 +1,31 @@
+//! The program: replays a script of queue commands from standard input, and prints the report.
+#![tactic(auto)]
+
+use qsg_io::{StdSink, StdSource};
+use qsg_run::{no_memory, replay};
+use std::alloc::AllocError;
+use std::env::{self, Env};
+use std::io;
+use std::process::ExitCode;
+
+/// The words after the program's name. Where they are no text there are none, which is no command either.
+fn words(rt: &(impl Env + AllocGlobal)) -> Result<Vec<String>, AllocError> {
+    let mut words = Vec::new(rt.alloc());
+    let Ok(args) = env::args(rt) else {
+        return Ok(words);
+    };
+    for word in args.skip(1) {
+        words.push(word)?;
+    }
+    Ok(words)
+}
+
+fn main(rt: HostRuntime) -> ExitCode {
+    let mut source = StdSource::new(rt.reader());
+    let mut sink = StdSink::new(io::writer(&rt));
+    let status = match words(&rt) {
+        Ok(words) => replay(rt.alloc(), &words, &mut source, &mut sink),
+        Err(_) => no_memory(&mut sink),
+    };
+    ExitCode::from(status.code())
+}

@@ -1,0 +1,5 @@
+pub mod Spelling
+pub mod Bits
+pub mod Blocks
+pub mod Saving
+pub mod Filling

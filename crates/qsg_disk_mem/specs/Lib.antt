@@ -1,0 +1,10 @@
+pub mod Bits
+pub mod Cut
+pub mod Cells
+pub mod Sound
+pub mod Calls
+pub mod Mem
+pub mod Places
+pub mod FailingCalls
+pub mod Rig
+pub mod Blind

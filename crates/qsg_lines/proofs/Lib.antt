@@ -1,0 +1,4 @@
+pub mod Splits
+pub mod Signs
+pub mod Texts
+pub mod Apart

@@ -1,0 +1,7 @@
+pub mod Rings
+pub mod Totals
+pub mod Laps
+pub mod Steps
+pub mod Cuts
+pub mod Fields
+pub mod Runs

@@ -1,0 +1,4 @@
+pub mod Reserved
+pub mod Page
+pub mod Log
+pub mod Writer

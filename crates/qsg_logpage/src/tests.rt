@@ -1,0 +1,105 @@
+//! A run of pages, cut after each of its steps, on lap 0 and on a later lap.
+
+ghost use Rattle.std.specs.Prelude.{◌≡◌, IfOk, length};
+
+use crate::{LogWriter, read_page};
+use qsg_disk::Disk;
+use qsg_disk_mem::MemDisk;
+use qsg_num::{Incarnation, Member, Page, PageNo, Pages, UnitName};
+use std::alloc::{AllocError, Global};
+use std::test::Fail;
+
+const UNIT: UnitName = UnitName {
+    member: Member::One,
+    incarnation: Incarnation { number: 1 },
+    seq: 1,
+};
+
+/// Picks of a cut, and whether each leaves the gate of page 0 or of page 1 open that was 0 and written as 1.
+const GATES: [(u64, bool, bool); 4] = [
+    (0, false, false),
+    (1, true, true),
+    (9, true, true),
+    (300, true, false),
+];
+
+/// Two bodies of ones.
+fn two_pages(alloc: Global) -> Result<Pages, AllocError>
+    ensures { IfOk result (λ p. length p ≡ 2) }
+{
+    let mut pages = Vec::new(alloc);
+    pages.push(Page::from_vec(vec![in alloc; 1; 4095]?))?;
+    pages.push(Page::from_vec(vec![in alloc; 1; 4095]?))?;
+    Ok(Pages::from_vec(pages))
+}
+
+/// Whether each of three pages is read from a page on.
+fn read_from(alloc: Global, disk: &mut MemDisk, first: u32) -> [bool; 3] {
+    let mut found = [false; 3];
+    for i in 0..3 {
+        let number = first.saturating_add(i as u32);
+        if disk.size() == 12288 {
+            found[i] = matches!(read_page(alloc, disk, PageNo { number }), Ok(Some(_)));
+        }
+    }
+    found
+}
+
+/// What the pages before the gates of a run of lap 1 are: three whole ones of lap 0.
+fn fill(disk: &mut MemDisk) -> bool {
+    let mut done = true;
+    for at in [0, 4096, 8192] {
+        if disk.size() == 12288 {
+            done &= disk.write(at, &[1, 2, 0, 4, 0, 0, 0, 0]).is_ok();
+        }
+    }
+    done && disk.sync().is_ok()
+}
+
+/// The pages that are read after so many steps of a run of two pages and a cut: from page 0 on for a run from
+/// there, from page 2 on for one from page 3, behind three pages of lap 0.
+fn after(alloc: Global, later: bool, steps: u32, pick: u64) -> Result<[bool; 3], AllocError> {
+    let mut disk = MemDisk::new(alloc, 12288, Vec::new(alloc))?;
+    if later && !fill(&mut disk) {
+        return Ok([false; 3]);
+    }
+    let start = if later { 3 } else { 0 };
+    let keep = if later { 2 } else { 0 };
+    let mut log = LogWriter::new(3, PageNo { number: start });
+    if log.reserve(UNIT, 2, PageNo { number: keep }).is_err() {
+        return Ok([false; 3]);
+    }
+    log.begin(UNIT, two_pages(alloc)?);
+    for _step in 0..steps {
+        if log.in_hand().is_none() || disk.size() != 12288 {
+            break;
+        }
+        let _ = log.next_step(&mut disk);
+    }
+    if disk.size() == 12288 {
+        let _ = disk.power_cut(pick, 0);
+    }
+    Ok(read_from(alloc, &mut disk, keep))
+}
+
+/// A page whose gate is written and not safe is whole where the cut leaves the gate other than 0.
+#[test]
+fn a_run_after_each_step(rt: HostRuntime) -> Result<(), Fail> {
+    let alloc = rt.alloc();
+    for (later, one_page, two_pages) in [(false, 4, 8), (true, 6, 12)] {
+        for (pick, first_opens, second_opens) in GATES {
+            for steps in 0..13u32 {
+                let next = steps.saturating_add(1);
+                let first = steps >= one_page || (first_opens && next == one_page);
+                let second = steps >= two_pages || (second_opens && next == two_pages);
+                let expected = if later {
+                    [true, first, second]
+                } else {
+                    [first, second, false]
+                };
+                assert_eq!(rt; after(alloc, later, steps, pick)?, expected);
+            }
+        }
+    }
+    Ok(())
+}

@@ -1,0 +1,11 @@
+pub mod Appends
+pub mod FirstOpen
+pub mod Exact
+pub mod Faults
+pub mod Legal
+pub mod Lines
+pub mod OneReading
+pub mod Pieces
+pub mod Runs
+pub mod Shown
+pub mod Words

@@ -1,0 +1,37 @@
+//! How a call ends.
+
+ghost use Rattle.std.specs.Prelude.{◌≡◌};
+ghost use Rattle.qsg_run.specs.Statuses.{status_number};
+
+/// How a call ended.
+#[derive(Clone, Copy, Debug, PartialEq, Eq)]
+pub enum Status {
+    /// The script was read and run to its END, and the report was written.
+    Finished,
+    /// The words are none that the program knows; the usage was written.
+    Usage,
+    /// The bytes are no script; its first fault was written, with its line.
+    Script,
+    /// The source failed; `read fault` was written.
+    ReadFault,
+    /// The sink failed, and took only a front of what was due.
+    WriteFault,
+    /// Memory was wanting; `no memory` was written.
+    NoMemory,
+}
+
+impl Status {
+    /// The exit status of the process.
+    pub fn code(self) -> u8
+        ensures { result ≡ status_number self }
+    {
+        match self {
+            Status::Finished => 0,
+            Status::Usage => 1,
+            Status::Script => 2,
+            Status::ReadFault => 4,
+            Status::WriteFault => 5,
+            Status::NoMemory => 6,
+        }
+    }
+}
