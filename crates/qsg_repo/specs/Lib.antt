@@ -1,0 +1,5 @@
+pub mod Statuses
+pub mod Lives
+pub mod Tables
+pub mod Calls
+pub mod Keeping
