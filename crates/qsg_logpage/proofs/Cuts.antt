@@ -24,7 +24,7 @@ module _ (size : ℕ) where
       ap (λ page. cond (is_safely_open (first / size) page) (body_of page ∷ open_pages new size (first + 1) count) []) (same first (omega arith) (omega arith))
       ∙ ap (λ l. cond (is_safely_open (first / size) (page_at old size first)) (body_of (page_at old size first) ∷ l) []) (same_pages old new (first + 1) count (λ k from to. same k (omega arith) (omega arith)))
 
-  open_here : (bytes : List Byte) (first count : ℕ) → is_safely_open (first / size) (page_at bytes size first) ≡ true → open_pages bytes size first (suc count) ≡ body_of (page_at bytes size first) ∷ open_pages bytes size (first + 1) count
+  pub open_here : (bytes : List Byte) (first count : ℕ) → is_safely_open (first / size) (page_at bytes size first) ≡ true → open_pages bytes size first (suc count) ≡ body_of (page_at bytes size first) ∷ open_pages bytes size (first + 1) count
   open_here bytes first count is = ap (λ b. cond b (body_of (page_at bytes size first) ∷ open_pages bytes size (first + 1) count) []) is
 
   pub shut_here : (bytes : List Byte) (first count : ℕ) → is_safely_open (first / size) (page_at bytes size first) ≡ false → open_pages bytes size first count ≡ []

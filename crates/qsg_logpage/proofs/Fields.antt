@@ -10,12 +10,14 @@ use Rattle.qsg_logpage.specs.declared.step.Phase.{Phase}
 use Rattle.qsg_logpage.specs.declared.step.Phase.TheVariants.{Fresh, GateShut, ShutSafe, BodyWritten, BodySafe, GateWritten}
 use Rattle.qsg_logpage.specs.declared.writer.LogWriter.TheInside.{Inside}
 use Rattle.qsg_logpage.specs.declared.writer.Run.{Run}
-use Rattle.qsg_logpage.specs.Page.{lap_of, with_lap}
+use Rattle.qsg_logpage.specs.Page.{page_at, lap_of, with_lap}
 use Rattle.qsg_logpage.specs.Reserved.{total, lowered, pages_for}
-use Rattle.qsg_logpage.specs.Log.{Hand, LogState, IsTied, IsAsked, IsGateShut, IsHeld, first_body, after_page, advanced, advanced_by}
+use Rattle.qsg_logpage.specs.Log.{Hand, LogState, IsTied, IsAsked, IsGateShut, IsHeld, first_body, after_page, advanced, advanced_by, AreWhole, made_by, made_safe}
 use Rattle.qsg_logpage.specs.Writer.{hand_of, state_of, IsRun, IsWriter}
 use Rattle.qsg_logpage.proofs.Totals.{pages_le_total}
-use Rattle.qsg_logpage.proofs.Steps.{IsInHand, advanced_is, first_body_asked, next_body_asked, shut_asked, shut_synced, body_synced, gate_asked, gate_synced}
+use Rattle.qsg_logpage.proofs.Steps.{IsInHand, advanced_is, first_body_asked, next_body_asked, shut_asked, shut_synced, body_synced, gate_asked, gate_synced, gate_whole, always_ok}
+use Rattle.qsg_logpage.proofs.Made.{whole_as}
+use Rattle.std.proofs.lemmas.Result.{on_ok_weaker}
 
 abbrev pub hand_of_run : Run → Hand
 hand_of_run run = record { unit = run.unit; pages = drop run.at run.pages; phase = run.phase }
@@ -77,6 +79,17 @@ module _ (inside : Inside) (run : Run) (some : inside.run ≡ Some run) (invaria
 
     pub asked_gate_sync : run.phase ≡ GateWritten → EachPair IsKeptOrSynced old new → OnOk result (new ≡ map synced old) → IsAsked keep log result old new
     asked_gate_sync phase each all = outer (gate_synced keep (state_of inside) (hand_of_run run) old new result inner (here GateWritten phase) each all)
+
+    -- what each step makes whole
+    pub made_none : (phase : Phase) → run.phase ≡ phase → made_by (state_of inside) (hand_of_run run) phase ≡ [] → OnOk result (AreWhole (log.next / log.size) (made_safe log) (page_at new log.size log.next))
+    made_none phase at none = always_ok result (subst (λ (l : LogState). AreWhole (l.next / l.size) (made_safe l) (page_at new l.size l.next)) is
+        (whole_as (state_of inside) (hand_of_run run) phase (page_at new inside.size inside.next.number) (here phase at)
+        (subst (λ (bodies : List (List ℕ)). AreWhole (inside.next.number / inside.size) bodies (page_at new inside.size inside.next.number)) (sym none) tt)))
+
+    pub made_whole : run.phase ≡ GateWritten → OnOk result (new ≡ map synced old) → OnOk result (AreWhole (log.next / log.size) (made_safe log) (page_at new log.size log.next))
+    made_whole at all = on_ok_weaker result (λ synced_all. subst (λ (l : LogState). AreWhole (l.next / l.size) (made_safe l) (page_at new l.size l.next)) is
+        (whole_as (state_of inside) (hand_of_run run) GateWritten (page_at new inside.size inside.next.number) (here GateWritten at)
+        (gate_whole keep (state_of inside) (hand_of_run run) old new result inner (here GateWritten at) synced_all))) all
 
 -- a run of another unit keeps its reservation
 pub run_kept : (run : Option Run) (unit : UnitName) (rs rs2 : List Reservation) → (elim (hand_of run) [ None ↦ false | Some hand ↦ same_unit hand.unit unit ]) ≡ false
@@ -141,6 +154,9 @@ asked_ok keep log result x old new is asked = subst (λ r. OnOk r (IsTied keep (
 
 pub asked_err : {T E : Type 0} (keep : ℕ) (log : LogState) (result : Result T E) (e : E) (old new : List Byte) → result ≡ Err e → IsAsked keep log result old new → IsTied keep log new
 asked_err keep log result e old new is asked = subst (λ r. OnErr r (IsTied keep log new)) is asked.failed
+
+pub made_ok : {T E : Type 0} (log : LogState) (result : Result T E) (x : T) (new : List Byte) → result ≡ Ok x → OnOk result (AreWhole (log.next / log.size) (made_safe log) (page_at new log.size log.next)) → AreWhole (log.next / log.size) (made_safe log) (page_at new log.size log.next)
+made_ok log result x new is made = subst (λ r. OnOk r (AreWhole (log.next / log.size) (made_safe log) (page_at new log.size log.next))) is made
 
 -- where a run is in hand, a page is reserved
 pub held : (inside : Inside) (log : LogState) → state_of inside ≡ log → IsWriter inside → IsHeld log

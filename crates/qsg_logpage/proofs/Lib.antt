@@ -5,3 +5,4 @@ pub mod Steps
 pub mod Cuts
 pub mod Fields
 pub mod Runs
+pub mod Made

@@ -11,7 +11,7 @@ use Rattle.qsg_disk.specs.Byte.{Byte, written, synced, safe_byte, values, part, 
 use Rattle.qsg_disk.proofs.Parts.{part-split, part_before, part_after, zipped_part, AllZip-drop, safe_kept, values_kept, kept_byte}
 use Rattle.qsg_logpage.specs.declared.step.Phase.{Phase}
 use Rattle.qsg_logpage.specs.declared.step.Phase.TheVariants.{Fresh, GateShut, ShutSafe, BodyWritten, BodySafe, GateWritten}
-use Rattle.qsg_logpage.specs.Page.{page_at, is_open_gate, body_of, with_lap, lap_of, IsStanding, IsShut, IsOther, IsAbsent}
+use Rattle.qsg_logpage.specs.Page.{page_at, is_open_gate, body_of, with_lap, lap_of, IsWhole, IsStanding, IsShut, IsOther, IsAbsent}
 use Rattle.qsg_logpage.specs.Reserved.{total, lowered, pages_for}
 use Rattle.qsg_logpage.specs.Log.{Hand, LogState, first_body, InPhase, AtNext, IsTied, IsAsked, IsGateShut, after_page, first_phase, in_phase, advanced, advanced_by}
 use Rattle.qsg_logpage.proofs.Rings.{positions_apart, same_position, next_lap}
@@ -355,6 +355,17 @@ module _ {E : Type 0} {T : Type 0} (keep : ℕ) (log : LogState) (hand : Hand) (
       unsafe_gate : (g : Byte) (bytes : List Byte) → bytes ≡ g ∷ [] → AreUnsafe bytes → g.safe ≡ None
       unsafe_gate g bytes is torn = subst AreUnsafe is torn 0 g (omega arith)
 
+  -- the page is whole behind it
+  pub gate_whole : IsInHand log hand GateWritten → new ≡ map synced old → IsWhole (log.next / log.size) (with_lap (log.next / log.size) (first_body hand.pages)) (page_at new log.size log.next)
+  gate_whole here is =
+      let now = phase_now GateWritten here in
+      record {
+        gate = 1;
+        open_gate = (λ e. omega arith);
+        has_lap = now.3;
+        bytes = page_synced old new (log.next % log.size) is ∙ ap (map synced) now.2 ∙ (λ i. safe_byte (now.1 i) ∷ synced-safe (with_lap (log.next / log.size) (first_body hand.pages)) i);
+      }
+
   -- the sync behind the gate
   pub gate_synced : IsInHand log hand GateWritten → EachPair IsKeptOrSynced old new → OnOk result (new ≡ map synced old) → IsAsked keep log result old new
   gate_synced here each synced_all =
@@ -366,12 +377,7 @@ module _ {E : Type 0} {T : Type 0} (keep : ℕ) (log : LogState) (hand : Hand) (
         done = on_ok_weaker result (λ is. to_advanced GateWritten here _ refl (tied_on keep log old new tied all _ (lowered hand.unit log.reserved) (omega (arith, total-lowered hand.unit log.reserved here.hold)) each
             (record {
               body = bytes;
-              whole = record {
-                gate = 1;
-                open_gate = (λ e. omega arith);
-                has_lap = now.3;
-                bytes = page_synced old new (log.next % log.size) is ∙ ap (map synced) now.2 ∙ (λ i. safe_byte (now.1 i) ∷ synced-safe bytes i);
-              };
+              whole = gate_whole here is;
             })
             (fresh hand.pages))) synced_all;
         failed = always_err result (tied_kept keep log old new tied all log.hand each (still GateWritten here (page_at new log.size log.next)

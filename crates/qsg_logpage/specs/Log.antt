@@ -9,7 +9,7 @@ use Rattle.qsg_logpage.specs.declared.step.Phase.TheVariants.{Fresh, GateShut, S
 use Rattle.qsg_logpage.specs.declared.step.InHand.{InHand}
 use Rattle.qsg_logpage.specs.declared.step.LogStep.{LogStep}
 use Rattle.qsg_logpage.specs.declared.step.LogStep.TheVariants as step
-use Rattle.qsg_logpage.specs.Page.{page_at, lap_of, is_open_gate, body_of, with_lap, open_pages, log_pages, IsStanding, IsShut, IsAbsent}
+use Rattle.qsg_logpage.specs.Page.{page_at, lap_of, is_open_gate, body_of, with_lap, open_pages, log_pages, IsWhole, IsStanding, IsShut, IsAbsent}
 use Rattle.qsg_logpage.specs.Reserved.{besides, lowered, total}
 
 -- the pages of a run that aren't safe yet, and how far the first of them is
@@ -91,6 +91,26 @@ advanced_by log hand GateWritten = record log { next = log.next + 1; reserved = 
 abbrev pub advanced : LogState → LogState
 advanced log = elim log.hand [ None ↦ log | Some hand ↦ advanced_by log hand hand.phase ]
 
+-- the pages that the next step makes safe: the one in hand, with its own lap, where only the sync of its gate is left
+abbrev pub made_by : LogState → Hand → Phase → List (List ℕ)
+made_by log hand Fresh = []
+made_by log hand GateShut = []
+made_by log hand ShutSafe = []
+made_by log hand BodyWritten = []
+made_by log hand BodySafe = []
+made_by log hand GateWritten = with_lap (log.next / log.size) (first_body hand.pages) ∷ []
+
+abbrev pub made_safe : LogState → List (List ℕ)
+made_safe log = elim log.hand [ None ↦ [] | Some hand ↦ made_by log hand hand.phase ]
+
+abbrev pub AreWhole : ℕ → List (List ℕ) → List Byte → Type 0
+AreWhole lap [] page = Unit {0}
+AreWhole lap (body ∷ bodies) page = IsWhole lap body page
+
+-- the pages that a writer has written, from page `keep` on
+abbrev pub pages_written : ℕ → LogState → List Byte → List (List ℕ)
+pages_written keep log bytes = open_pages bytes log.size keep (log.next - keep)
+
 abbrev pub step_at : LogState → Phase → LogStep
 step_at log Fresh = if log.next / log.size == 0 then step.BodyWritten else step.GateShut
 step_at log GateShut = step.ShutSafe
@@ -106,8 +126,8 @@ step_of log = elim log.hand [ None ↦ None | Some hand ↦ Some (step_at log ha
 -- A log after a power cut: the pages from keep to before the page in hand, with that page or without.
 pub record IsCutShort (keep : ℕ) (log : LogState) (old new : List Byte) : Type 0 where
   pub earlier : (k : ℕ) → keep ≤ k → k < log.next → page_at new log.size k ≡ page_at old log.size k
-  pub pages : (log_pages new log.size keep ≡ open_pages old log.size keep (log.next - keep))
-      ⊎ (log_pages new log.size keep ≡ open_pages old log.size keep (log.next - keep) ++ hand_body (log.next / log.size) log.hand)
+  pub pages : (log_pages new log.size keep ≡ pages_written keep log old)
+      ⊎ (log_pages new log.size keep ≡ pages_written keep log old ++ hand_body (log.next / log.size) log.hand)
   -- a writer that goes on behind them
   pub tied : IsTied keep (record { size = log.size; next = keep + length (log_pages new log.size keep); reserved = []; hand = None }) new
 

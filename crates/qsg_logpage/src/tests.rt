@@ -56,10 +56,17 @@ fn fill(disk: &mut MemDisk) -> bool {
     done && disk.sync().is_ok()
 }
 
-/// The pages that are read after so many steps of a run of two pages and a cut: from page 0 on for a run from
-/// there, from page 2 on for one from page 3, behind three pages of lap 0.
-fn after(alloc: Global, later: bool, steps: u32, pick: u64) -> Result<[bool; 3], AllocError> {
-    let mut disk = MemDisk::new(alloc, 12288, Vec::new(alloc))?;
+/// The pages that are read after so many steps of a run of two pages, those that failed among them, and a cut: from
+/// page 0 on for a run from there, from page 2 on for one from page 3, behind three pages of lap 0. One call of the
+/// device fails; call 0 never comes.
+fn after(
+    alloc: Global,
+    failing: u32,
+    later: bool,
+    steps: u32,
+    pick: u64,
+) -> Result<[bool; 3], AllocError> {
+    let mut disk = MemDisk::new(alloc, 12288, vec![in alloc; failing; 1]?)?;
     if later && !fill(&mut disk) {
         return Ok([false; 3]);
     }
@@ -97,8 +104,36 @@ fn a_run_after_each_step(rt: HostRuntime) -> Result<(), Fail> {
                 } else {
                     [first, second, false]
                 };
-                assert_eq!(rt; after(alloc, later, steps, pick)?, expected);
+                assert_eq!(rt; after(alloc, 0, later, steps, pick)?, expected);
             }
+        }
+    }
+    Ok(())
+}
+
+/// Each call of the device fails once, and its step is made again.
+#[test]
+fn a_run_over_a_failing_device(rt: HostRuntime) -> Result<(), Fail> {
+    let alloc = rt.alloc();
+    for call in 1..9u32 {
+        assert_eq!(rt; after(alloc, call, false, 8, 0)?, [true, false, false]);
+        assert_eq!(rt; after(alloc, call, false, 9, 0)?, [true, true, false]);
+    }
+    // Four calls make the three pages of lap 0.
+    for call in 5..19u32 {
+        assert_eq!(rt; after(alloc, call, true, 12, 0)?, [true, true, false]);
+        assert_eq!(rt; after(alloc, call, true, 13, 0)?, [true, true, true]);
+    }
+    Ok(())
+}
+
+/// A cut right after the call that failed. A pick, and the first call whose failure leaves the first page whole.
+#[test]
+fn a_cut_after_a_failure(rt: HostRuntime) -> Result<(), Fail> {
+    for (pick, opens) in [(0, 5), (1, 4), (9, 3)] {
+        for call in 1..9u32 {
+            let expected = [call >= opens, call >= opens + 4, false];
+            assert_eq!(rt; after(rt.alloc(), call, false, call, pick)?, expected);
         }
     }
     Ok(())

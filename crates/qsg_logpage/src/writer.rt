@@ -5,7 +5,7 @@ ghost use Rattle.qsg_num.specs.Faults.{HasCause};
 ghost use Rattle.qsg_disk.specs.Byte.{Byte};
 ghost use Rattle.qsg_logpage.specs.Page.{page_at};
 ghost use Rattle.qsg_logpage.specs.Reserved.{besides, total, pages_for};
-ghost use Rattle.qsg_logpage.specs.Log.{LogState, IsTied, IsAsked, advanced, step_of, in_hand_of, has_run, free, IsHeld};
+ghost use Rattle.qsg_logpage.specs.Log.{LogState, IsTied, IsAsked, AreWhole, advanced, made_safe, pages_written, step_of, in_hand_of, has_run, free, IsHeld};
 
 use crate::gate::shut_gate;
 use crate::lap::write_body;
@@ -150,6 +150,7 @@ impl LogWriter {
         ensures extent { D.extent device.new ≡ D.extent device.old }
         ensures cause { HasCause (D.faults device.old) (D.faults device.new) result }
         ensures asked { D.tells device.old ≡ true → (keep : ℕ) → IsTied keep self.now (D.bytes device.old) → IsAsked keep self.now result (D.bytes device.old) (D.bytes device.new) }
+        ensures made { D.tells device.old ≡ true → (keep : ℕ) → IsTied keep self.now (D.bytes device.old) → OnOk result (AreWhole (self.now.next / self.now.size) (made_safe self.now) (page_at (D.bytes device.new) self.now.size self.now.next)) }
     {
         let Some(run) = &self.run else {
             return Ok(());
@@ -239,6 +240,9 @@ impl LogWriter {
         ensures tied { D.tells device.old ≡ true → (keep : ℕ) → IsTied keep self.old (D.bytes device.old) → IsTied keep self.new (D.bytes device.new) }
         ensures earlier { D.tells device.old ≡ true → (keep : ℕ) → IsTied keep self.old (D.bytes device.old)
             → (k : ℕ) → keep ≤ k → k < self.old.next → page_at (D.bytes device.new) self.old.size k ≡ page_at (D.bytes device.old) self.old.size k }
+        // The pages that are written are those that were, and the one that this step makes safe.
+        ensures pages { D.tells device.old ≡ true → (keep : ℕ) → IsTied keep self.old (D.bytes device.old)
+            → OnOk result (pages_written keep self.new (D.bytes device.new) ≡ pages_written keep self.old (D.bytes device.old) ++ made_safe self.old) }
     {
         self.ask(device)?;
         Ok(self.advance())

@@ -10,7 +10,7 @@ use Rattle.qsg_logrec.specs.Pages.{piece_text, area_text, ArePieces, IsPiece, Is
 use Rattle.qsg_logrec.specs.Cutting.{Joined, joined, joined_from, join_piece, part_at, room_at, cut_pieces, left_after, run_pieces, cut_page, last_page, bodies, cut_bodies, Fit, NoneEmpty, ArePagesOf, all_pieces, HaveRecords}
 use Rattle.qsg_logrec.proofs.Areas.{area_more, area_long}
 
-some_room : (left : ℕ) → 0 < room_at left
+pub some_room : (left : ℕ) → 0 < room_at left
 some_room left = grind (arith, nat_tests)
 
 pub small_room : (left : ℕ) → left ≤ 4088 → room_at left ≤ 4088
@@ -109,14 +109,14 @@ run_fits left (r ∷ rs) =
 
 -- ---- joining
 
-join_append : (j : Joined) (ps qs : List Piece) → joined_from j (ps ++ qs) ≡ joined_from (joined_from j ps) qs
+pub join_append : (j : Joined) (ps qs : List Piece) → joined_from j (ps ++ qs) ≡ joined_from (joined_from j ps) qs
 join_append j [] qs = refl
 join_append j (p ∷ ps) qs = join_append (join_piece j p) ps qs
 
 abbrev begun_with : List (List ℕ) → List ℕ → Joined
 begun_with records begun = record { records = records; begun = Some begun }
 
-abbrev whole : List (List ℕ) → Joined
+abbrev pub whole : List (List ℕ) → Joined
 whole records = record { records = records; begun = None }
 
 rest_joins : (most left : ℕ) (bytes : List ℕ) (records : List (List ℕ)) (begun : List ℕ) → 0 < length bytes → length bytes ≤ most
@@ -166,7 +166,7 @@ record_joins (suc most) left (b ∷ bytes) records some fits = by_test (nat_le (
         ∙ ap (λ l. whole (records ++ l ∷ [])) (take-append-drop (room_at left) (b ∷ bytes))
         )
 
-run_joins : (left : ℕ) (rs records : List (List ℕ)) → NoneEmpty rs → joined_from (whole records) (run_pieces left rs) ≡ whole (records ++ rs)
+pub run_joins : (left : ℕ) (rs records : List (List ℕ)) → NoneEmpty rs → joined_from (whole records) (run_pieces left rs) ≡ whole (records ++ rs)
 run_joins left [] records some = ap whole (sym (append-nil records))
 run_joins left (r ∷ rs) records some =
     let mine = cut_pieces (length r) left true r in
@@ -200,7 +200,7 @@ page_is page area is each some fits = record {
   body_is = ap cut_page is;
 }
 
-record Held (page ps : List Piece) (pages : List (List ℕ)) : Type 0 where
+pub record Held (page ps : List Piece) (pages : List (List ℕ)) : Type 0 where
   pub paged : List (List Piece)
   pub are : ArePagesOf paged pages
   pub same : all_pieces paged ≡ page ++ ps
@@ -218,7 +218,7 @@ full_room n low high = grind (arith, nat_tests)
 part_room : (n : ℕ) → n ≤ 4084 → room_at (4088 - n) ≡ 4085 - n
 part_room n low = grind (arith, nat_tests)
 
-pages_hold : (ps page : List Piece) (area : List ℕ) → area ≡ area_text page → ArePieces page → length area ≤ 4088 → Fit (4088 - length area) ps → Held page ps (bodies area ps)
+pub pages_hold : (ps page : List Piece) (area : List ℕ) → area ≡ area_text page → ArePieces page → length area ≤ 4088 → Fit (4088 - length area) ps → Held page ps (bodies area ps)
 pages_hold [] page area is each fits fit = last_held page area is each fits
 pages_hold (p ∷ ps) page area is each fits fit = by_test (pages_hold ps) (nat_lt 4084 (length area)) refl
   where

@@ -6,3 +6,4 @@ pub mod PieceLoop
 pub mod Cuts
 pub mod Decoded
 pub mod Sizes
+pub mod Fronts

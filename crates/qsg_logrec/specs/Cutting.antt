@@ -109,3 +109,11 @@ pub record HaveRecords (records pages : List (List ℕ)) : Type 0 where
   pub pieces : List (List Piece)
   pub pages_are : ArePagesOf pieces pages
   pub joins : joined (all_pieces pieces) ≡ record { records = records; begun = None }
+
+-- the pages have a front of these records, and not all of them
+pub record HaveFront (records pages : List (List ℕ)) : Type 0 where
+  pub pieces : List (List Piece)
+  pub pages_are : ArePagesOf pieces pages
+  pub count : ℕ
+  pub fewer : count < length records
+  pub joins : (joined (all_pieces pieces)).records ≡ take count records

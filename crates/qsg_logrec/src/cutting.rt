@@ -1,9 +1,9 @@
 //! Cutting a run of records into pages.
 
-ghost use Rattle.std.specs.Prelude.{◌≡◌, ◌<◌, ◌≤◌, ◌-◌, ◌++◌, [], ◌∷◌, List, ℕ, length, replicate, IfOk, OnOk, true};
+ghost use Rattle.std.specs.Prelude.{◌≡◌, ◌<◌, ◌≤◌, ◌-◌, ◌++◌, [], ◌∷◌, List, ℕ, length, take, replicate, IfOk, OnOk, true};
 ghost use Rattle.qsg_logrec.specs.declared.piece.Piece.{Piece};
 ghost use Rattle.qsg_logrec.specs.Pages.{part_number, piece_text, page_text};
-ghost use Rattle.qsg_logrec.specs.Cutting.{part_at, room_at, cut_pieces, left_after, run_pieces, cut_page, last_page, bodies, cut_bodies, Fit, NoneEmpty, HaveRecords};
+ghost use Rattle.qsg_logrec.specs.Cutting.{part_at, room_at, cut_pieces, left_after, run_pieces, cut_page, last_page, bodies, cut_bodies, Fit, NoneEmpty, HaveRecords, HaveFront};
 
 use crate::lists::Spellings;
 use crate::piece::{Part, Piece};
@@ -165,3 +165,9 @@ pub fn cut(alloc: Global, records: &Spellings) -> Result<Pages, AllocError>
     let pieces = cut_run(alloc, records.as_slice())?;
     Ok(Pages::from_vec(page_run(alloc, &pieces)?))
 }
+
+/// Of a run's pages the first ones, where a page is left, have a front of its records: the last record ends on the
+/// last page.
+pub fn the_last_record_ends_on_the_last_page()
+    ensures { (records : List (List ℕ)) (count : ℕ) → NoneEmpty records → count < length (cut_bodies records) → HaveFront records (take count (cut_bodies records)) }
+{}

@@ -20,7 +20,7 @@ mod record;
 mod sets;
 mod writing;
 
-pub use cutting::cut;
+pub use cutting::{cut, the_last_record_ends_on_the_last_page};
 pub use fault::{PageFault, RecordFault};
 pub use lists::{Pieces, Records, Spellings};
 pub use page::decode_page;

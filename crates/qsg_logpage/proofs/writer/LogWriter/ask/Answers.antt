@@ -1,8 +1,9 @@
-use Rattle.std.proofs.Common.{◌%◌, ◌<◌, ap, ◌∙◌, arith}
+use Rattle.std.proofs.Common.{◌%◌, ◌<◌, ap, refl, ◌∙◌, arith}
 use Rattle.std.proofs.lemmas.Result.{on_ok_weaker}
 use Rattle.std.proofs.Math.Nat.{mod-lt}
 use Rattle.qsg_logpage.specs.Log.{LogState}
-use Rattle.qsg_logpage.proofs.Fields.{asked_first_body, asked_next_body, asked_shut, asked_shut_sync, asked_body_sync, asked_gate, asked_gate_sync}
+use Rattle.qsg_logpage.proofs.Fields.{asked_first_body, asked_next_body, asked_shut, asked_shut_sync, asked_body_sync, asked_gate, asked_gate_sync, made_none, made_whole}
+use Rattle.qsg_logpage.specs.declared.step.Phase.TheVariants.{Fresh, GateShut, ShutSafe, BodyWritten, BodySafe}
 use Rattle.qsg_logpage.proofs.writer.LogWriter.ask.Goals as goal
 
 pub returns-then-lap-eq0-clause-asked : goal.returns-then-lap-eq0-clause-asked
@@ -33,3 +34,24 @@ returns-in-BodySafe-clause-asked g c = λ told keep tied.
 
 pub returns-in-GateWritten-clause-asked : goal.returns-in-GateWritten-clause-asked
 returns-in-GateWritten-clause-asked g c = λ told keep tied. asked_gate_sync c.self.inside c.in-Some.run' c.in-Some.is c.self.invariant c.args.self.now c.self.view_is keep _ _ c.sync-in-GateWritten.result tied c.in-GateWritten.is (c.sync-in-GateWritten.ensures.kept told) (on_ok_weaker c.sync-in-GateWritten.result (λ all. all told) c.sync-in-GateWritten.ensures.synced)
+
+pub returns-then-lap-eq0-clause-made : goal.returns-then-lap-eq0-clause-made
+returns-then-lap-eq0-clause-made g c = λ told keep tied. made_none c.self.inside c.in-Some.run' c.in-Some.is c.self.invariant c.args.self.now c.self.view_is keep _ _ c.write_body.result tied Fresh c.in-Fresh.is refl
+
+pub returns-else-lap-eq0-clause-made : goal.returns-else-lap-eq0-clause-made
+returns-else-lap-eq0-clause-made g c = λ told keep tied. made_none c.self.inside c.in-Some.run' c.in-Some.is c.self.invariant c.args.self.now c.self.view_is keep _ _ c.shut_gate.result tied Fresh c.in-Fresh.is refl
+
+pub returns-in-GateShut-clause-made : goal.returns-in-GateShut-clause-made
+returns-in-GateShut-clause-made g c = λ told keep tied. made_none c.self.inside c.in-Some.run' c.in-Some.is c.self.invariant c.args.self.now c.self.view_is keep _ _ c.sync.result tied GateShut c.in-GateShut.is refl
+
+pub returns-in-ShutSafe-clause-made : goal.returns-in-ShutSafe-clause-made
+returns-in-ShutSafe-clause-made g c = λ told keep tied. made_none c.self.inside c.in-Some.run' c.in-Some.is c.self.invariant c.args.self.now c.self.view_is keep _ _ c.write_body-in-ShutSafe.result tied ShutSafe c.in-ShutSafe.is refl
+
+pub returns-in-BodyWritten-clause-made : goal.returns-in-BodyWritten-clause-made
+returns-in-BodyWritten-clause-made g c = λ told keep tied. made_none c.self.inside c.in-Some.run' c.in-Some.is c.self.invariant c.args.self.now c.self.view_is keep _ _ c.sync-in-BodyWritten.result tied BodyWritten c.in-BodyWritten.is refl
+
+pub returns-in-BodySafe-clause-made : goal.returns-in-BodySafe-clause-made
+returns-in-BodySafe-clause-made g c = λ told keep tied. made_none c.self.inside c.in-Some.run' c.in-Some.is c.self.invariant c.args.self.now c.self.view_is keep _ _ c.write.result tied BodySafe c.in-BodySafe.is refl
+
+pub returns-in-GateWritten-clause-made : goal.returns-in-GateWritten-clause-made
+returns-in-GateWritten-clause-made g c = λ told keep tied. made_whole c.self.inside c.in-Some.run' c.in-Some.is c.self.invariant c.args.self.now c.self.view_is keep _ _ c.sync-in-GateWritten.result tied c.in-GateWritten.is (on_ok_weaker c.sync-in-GateWritten.result (λ all. all told) c.sync-in-GateWritten.ensures.synced)

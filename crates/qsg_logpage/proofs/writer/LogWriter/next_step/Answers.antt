@@ -1,6 +1,7 @@
-use Rattle.std.proofs.Common.{ap, sym, ◌∙◌, subst}
-use Rattle.qsg_logpage.specs.Log.{LogState, IsTied}
-use Rattle.qsg_logpage.proofs.Fields.{advanced-size, asked_ok, asked_err}
+use Rattle.std.proofs.Common.{◌≡◌, ◌++◌, ap, sym, ◌∙◌, subst}
+use Rattle.qsg_logpage.specs.Log.{LogState, IsTied, made_safe, pages_written}
+use Rattle.qsg_logpage.proofs.Fields.{advanced-size, asked_ok, asked_err, made_ok}
+use Rattle.qsg_logpage.proofs.Made.{pages_made}
 use Rattle.qsg_logpage.proofs.writer.LogWriter.next_step.Goals as goal
 
 pub returns-in_err-ask-clause-tied : goal.returns-in_err-ask-clause-tied
@@ -17,3 +18,8 @@ returns-clause-earlier g c = λ told keep tied. (c.ask.ensures.asked told keep t
 
 pub returns-clause-size : goal.returns-clause-size
 returns-clause-size g c = ap (λ (l : LogState). l.size) c.advance.ensures.advanced ∙ advanced-size c.args.self.now
+
+pub returns-clause-pages : goal.returns-clause-pages
+returns-clause-pages g c = λ told keep tied.
+    subst (λ (l : LogState). pages_written keep l (g.D.Disk.bytes c.ask.new.device) ≡ pages_written keep c.args.self.now (g.D.Disk.bytes c.args.device.now) ++ made_safe c.args.self.now) (sym c.advance.ensures.advanced)
+    (pages_made keep c.args.self.now _ _ tied (c.ask.ensures.asked told keep tied).earlier (made_ok c.args.self.now c.ask.result _ _ c.in_ok-ask.was (c.ask.ensures.made told keep tied)))
