@@ -1,0 +1,5 @@
+pub mod Keywords
+pub mod Values
+pub mod Faults
+pub mod Admins
+pub mod Laws

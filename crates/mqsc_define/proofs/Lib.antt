@@ -1,0 +1,6 @@
+pub mod Options
+pub mod Names
+pub mod FirstFault
+pub mod Keys
+pub mod Defaults
+pub mod Ranges
