@@ -1,1 +1,7 @@
-pub mod Held
+pub mod Longer
+pub mod Differing
+pub mod Growing
+pub mod Keyed
+pub mod Past
+pub mod Listed
+pub mod Filling

@@ -1,4 +1,4 @@
-use Rattle.qsg_model.proofs.Held.{held-push}
+use Rattle.qsg_model.proofs.Longer.{held-push}
 use Rattle.qsg_model.proofs.laws.each_item_acts_on_what_was_held.Goals as goal
 
 pub returns : goal.returns
