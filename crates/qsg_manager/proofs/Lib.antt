@@ -1,0 +1,4 @@
+pub mod Bridges
+pub mod Made
+pub mod Grouping
+pub mod Acting

@@ -1,0 +1,99 @@
+//! The list structures of a group, by their numbers.
+
+ghost use Rattle.std.specs.Prelude.{◌≡◌, ◌≤◌, ◌<◌, ◌+◌, ◌-◌, ◌^◌, ℕ, List, OnOk, OnErr, IfOk, IfErr, None, length, slice_set};
+
+use qsg_lists::{Connection, Head, Lost, Place, Seen, Settled, Structure, WriteRefused};
+use qsg_num::{EntryId, StructNo, UnitName};
+use std::marker::Model;
+
+/// The list structures of a group, by their numbers.
+#[derive(Drop)]
+pub struct Structures {
+    items: Vec<Structure>,
+}
+
+impl Model for Structures {
+    ghost use Rattle.std.specs.Prelude.{List};
+    ghost use Rattle.qsg_lists.specs.Structures.{ListStructure};
+
+    ghost Value = { List ListStructure };
+
+    ghost view = { λ s. s.items.items };
+}
+
+impl Structures {
+    ghost use Rattle.qsg_num.specs.Seats.{structure_number};
+    ghost use Rattle.qsg_lists.specs.Structures.{ListStructure, IsSound, connect_answer, lost_of, unless};
+    ghost use Rattle.qsg_lists.specs.Entries.{depth_of};
+    ghost use Rattle.qsg_lists.specs.Settling.{settle_answer, settled_entry, revised_if_done};
+    ghost use Rattle.qsg_lists.specs.Writing.{write_refusal, next_id, written, IsWhy};
+    ghost use Rattle.qsg_manager.specs.Facilities.{structure_in, with_structure};
+
+    /// Those of a `Vec`, in order of their numbers. Takes no memory.
+    pub fn from_vec(items: Vec<Structure>) -> Structures
+        ensures { result ≡ items.items }
+    {
+        Structures { items }
+    }
+
+    /// How many there are.
+    pub fn len(&self) -> usize
+        ensures { result ≡ length self.now }
+    {
+        self.items.len()
+    }
+
+    /// What a user of a structure is told at its first use.
+    pub fn connect(&self, structure: StructNo) -> Result<Seen, Lost>
+        requires within { structure_number structure ≤ length self.now }
+        ensures { result ≡ connect_answer (structure_in structure self.now) }
+    {
+        self.items[structure.index()].connect()
+    }
+
+    /// The depth of a queue of a structure.
+    pub fn depth(&self, connection: Connection, queue: &str) -> Result<u32, Lost>
+        requires within { structure_number connection.structure ≤ length self.now }
+        ensures { result ≡ unless (lost_of (structure_in connection.structure self.now) connection) (depth_of queue.now (structure_in connection.structure self.now).entries) }
+    {
+        self.items[connection.structure.index()].depth(connection, queue)
+    }
+
+    /// Writes an entry into a structure, marked by the unit that puts it.
+    pub fn write_entry(
+        &mut self,
+        connection: Connection,
+        unit: UnitName,
+        head: Head,
+        place: Place,
+        max_depth: u32,
+    ) -> Result<EntryId, WriteRefused>
+        requires within { structure_number connection.structure ≤ length self.old }
+        requires fits { (structure_in connection.structure self.old).last + 1 < 2 ^ 40 }
+        ensures passed { OnOk result (write_refusal (structure_in connection.structure self.old) connection head place max_depth ≡ None) }
+        ensures id { IfOk result (λ id. id ≡ next_id (structure_in connection.structure self.old)) }
+        ensures after { OnOk result (self.new ≡ with_structure connection.structure (written (structure_in connection.structure self.old) unit head place) self.old) }
+        ensures why { IfErr result (λ e. IsWhy e.why (write_refusal (structure_in connection.structure self.old) connection head place max_depth)) }
+        ensures back { IfErr result (λ e. (e.head ≡ head) × (e.place ≡ place)) }
+        ensures unchanged { OnErr result (self.new ≡ self.old) }
+    {
+        let chosen = &mut self.items[connection.structure.index()];
+        chosen.write_entry(connection, unit, head, place, max_depth)
+    }
+
+    /// Takes the mark of a unit off an entry.
+    pub fn settle(
+        &mut self,
+        connection: Connection,
+        id: EntryId,
+        unit: UnitName,
+        commits: bool,
+    ) -> Result<Settled, Lost>
+        requires within { structure_number connection.structure ≤ length self.old }
+        ensures answer { result ≡ settle_answer (structure_in connection.structure self.old) connection id unit }
+        ensures after { self.new ≡ with_structure connection.structure (revised_if_done result id (settled_entry commits) (structure_in connection.structure self.old)) self.old }
+    {
+        let chosen = &mut self.items[connection.structure.index()];
+        chosen.settle(connection, id, unit, commits)
+    }
+}

@@ -1,0 +1,155 @@
+//! A put and its settling, over a structure and a task.
+
+ghost use Rattle.std.specs.Prelude.{◌≡◌, length, IfSome};
+ghost use Rattle.qsg_num.specs.declared.seats.StructNo.TheVariants as structure;
+ghost use Rattle.qsg_num.specs.declared.seats.Member.TheVariants as member;
+ghost use Rattle.qsg_manager.specs.Facilities.{structure_in};
+ghost use Rattle.qsg_manager.specs.Storage.{manager_in};
+
+use super::*;
+use qsg_group::{Stage, Task};
+use qsg_lists::{Connection, Head, Place, Settled, Structure, WriteWhy};
+use qsg_msg::Message;
+use qsg_num::{
+    Body, EntryId, Incarnation, InlineBody, Member, Name, PageNo, Priority, QueueName, StructNo,
+    TaskNo, UnitName,
+};
+use std::alloc::Global;
+use std::test::*;
+
+const UNIT: UnitName = UnitName {
+    member: Member::One,
+    incarnation: Incarnation { number: 1 },
+    seq: 1,
+};
+
+const NOW: Connection = Connection {
+    structure: StructNo::One,
+    epoch: 0,
+};
+
+fn queue(alloc: Global) -> Option<QueueName> {
+    QueueName::from_name(Name::from_str(alloc, "Q1").ok()?).ok()
+}
+
+/// A put of the body `hello` to a queue of at most so many messages.
+fn hello(alloc: Global, max_depth: u32) -> Option<NewEntry> {
+    Some(NewEntry {
+        head: Head {
+            queue: queue(alloc)?,
+            priority: Priority::Four,
+            persistent: true,
+            msg_id: [0; 24],
+            correl_id: [0; 24],
+        },
+        place: Place::Inline(InlineBody::from_slice(alloc, b"hello").ok()?),
+        message: Message {
+            id: EntryId { number: 0 },
+            structure: StructNo::One,
+            queue: queue(alloc)?,
+            priority: Priority::Four,
+            persistent: true,
+            msg_id: [0; 24],
+            correl_id: [0; 24],
+            body: Body::from_slice(alloc, b"hello").ok()?,
+        },
+        max_depth,
+    })
+}
+
+/// A structure of ten elements and a task that holds a unit.
+fn parts(alloc: Global) -> Option<(Structures, Task)>
+    ensures one { IfSome result (λ p. length p.0 ≡ 1) }
+    ensures empty { IfSome result (λ p. (structure_in structure.One p.0).last ≡ 0) }
+{
+    let mut items = Vec::new(alloc);
+    items.push(Structure::new(alloc, StructNo::One, 10)).ok()?;
+    let mut task = idle_task(alloc);
+    task.unit = Some(UNIT);
+    Some((Structures::from_vec(items), task))
+}
+
+#[test]
+fn a_put_is_written_and_settled(rt: HostRuntime) {
+    let alloc = rt.alloc();
+    let Some((mut structures, mut task)) = parts(alloc) else {
+        assert!(rt; false);
+        return;
+    };
+    let (Some(entry), Some(more)) = (hello(alloc, 1), hello(alloc, 1)) else {
+        assert!(rt; false);
+        return;
+    };
+    let Ok(id) = write_entry(alloc, &mut structures, &mut task, NOW, UNIT, entry) else {
+        assert!(rt; false);
+        return;
+    };
+    assert_eq!(rt; id.get(), 1);
+    assert_eq!(rt; task.ops.len(), 1);
+    // the queue takes one message
+    match write_entry(alloc, &mut structures, &mut task, NOW, UNIT, more) {
+        Ok(_) => assert!(rt; false),
+        Err(refused) => assert_eq!(rt; refused.why, WriteWhy::QueueFull { depth: 1 }),
+    }
+    assert_eq!(rt; task.claims.len(), 1);
+    assert!(rt; next_claim(&task).is_none());
+    task.stage = Stage::Committed {
+        first: PageNo { number: 0 },
+        settled: 0,
+    };
+    let Some(claim) = next_claim(&task) else {
+        assert!(rt; false);
+        return;
+    };
+    assert!(rt; claim.persistent);
+    assert_eq!(rt; claim.id, id);
+    if claim.connection != NOW {
+        assert!(rt; false);
+        return;
+    }
+    assert_eq!(rt;
+        settle_next(&mut structures, &mut task, UNIT, claim),
+        Ok(Settled::Done)
+    );
+    assert!(rt; next_claim(&task).is_none());
+    assert_eq!(rt; structures.depth(NOW, "Q1"), Ok(1));
+}
+
+/// One member that is up.
+fn one_member(alloc: Global) -> Option<Managers>
+    ensures one { IfSome result (λ m. length m ≡ 1) }
+    ensures next { IfSome result (λ m. (manager_in member.One m).next ≡ 1) }
+{
+    let mut items = Vec::new(alloc);
+    let manager = Manager {
+        up: true,
+        incarnation: Incarnation { number: 1 },
+        next: 1,
+        tasks: Tasks::new(alloc).ok()?,
+    };
+    items.push(manager).ok()?;
+    Some(Managers::from_vec(items))
+}
+
+#[test]
+fn a_member_draws_names_in_order(rt: HostRuntime) {
+    let alloc = rt.alloc();
+    let Some(mut managers) = one_member(alloc) else {
+        assert!(rt; false);
+        return;
+    };
+    assert_eq!(rt; managers.draw(Member::One), UNIT);
+    assert_eq!(rt; managers.draw(Member::One).seq, 2);
+    let mut task = idle_task(alloc);
+    task.unit = Some(UNIT);
+    assert_eq!(rt;
+        managers.replace_task(Member::One, TaskNo::Three, task).unit,
+        None
+    );
+    let given = managers.replace_task(Member::One, TaskNo::Three, idle_task(alloc));
+    assert_eq!(rt; given.unit, Some(UNIT));
+    assert_eq!(rt;
+        managers.manager(Member::One).tasks.task(TaskNo::Three).unit,
+        None
+    );
+}

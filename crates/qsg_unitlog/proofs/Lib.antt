@@ -1,0 +1,9 @@
+pub mod Lists
+pub mod Pieces
+pub mod Fronts
+pub mod Beside
+pub mod Standing
+pub mod Told
+pub mod Steps
+pub mod Logged
+pub mod Gates
