@@ -45,7 +45,6 @@ fn push_reserved<T: Drop>(items: &mut Vec<T>, item: T)
 }
 
 /// Writes the entry of a put, and adds the operation to its unit. A refusal changes nothing.
-
 pub fn write_entry(
     alloc: Global,
     structures: &mut Structures,
