@@ -1,0 +1,5 @@
+pub mod Options
+pub mod Steps
+pub mod FirstFault
+pub mod Quoted
+pub mod Digits

@@ -1,0 +1,4 @@
+pub mod Taken
+pub mod Once
+pub mod Texts
+pub mod Order

@@ -1,0 +1,4 @@
+pub mod Semicolon
+pub mod Bodies
+pub mod Unique
+pub mod Keys
