@@ -1,15 +1,14 @@
 -- actions on structures and managers are changes of the machine
-use Rattle.std.proofs.Common.{◌≡◌, ℕ, ◌+◌, ◌≤◌, Bool, true, false, cond, List, [], ◌∷◌, ◌++◌, length, Option, Some, None, refl, sym, ap, subst, ◌∙◌}
+use Rattle.std.proofs.Common.{◌≡◌, ℕ, ◌+◌, Bool, true, false, cond, List, [], ◌∷◌, ◌++◌, Option, Some, None, refl, sym, ap, subst, ◌∙◌}
 use Rattle.std.specs.Prelude.{◌==◌, ◌&&◌}
 use Rattle.std.proofs.lemmas.Bool.{and_parts, eqb-true}
-use Rattle.qsg_num.specs.declared.seats.Member.{Member}
 use Rattle.qsg_num.specs.declared.seats.StructNo.{StructNo}
 use Rattle.qsg_num.specs.declared.seats.TaskNo.{TaskNo}
 use Rattle.qsg_num.specs.declared.ids.UnitName.{UnitName}
 use Rattle.qsg_num.specs.declared.ids.EntryId.{EntryId}
 use Rattle.qsg_msg.specs.declared.message.Message.{Message}
 use Rattle.qsg_model.specs.declared.history.Op.{Op}
-use Rattle.qsg_model.specs.declared.history.Op.TheVariants.{Put, Got}
+use Rattle.qsg_model.specs.declared.history.Op.TheVariants.{Put}
 use Rattle.qsg_lists.specs.declared.parts.Connection.{Connection}
 use Rattle.qsg_lists.specs.declared.parts.Lost.{Lost}
 use Rattle.qsg_lists.specs.declared.parts.Head.{Head}
@@ -20,18 +19,18 @@ use Rattle.qsg_lists.specs.Settling.{settle_answer, settled_entry, revised_if_do
 use Rattle.qsg_lists.specs.Writing.{written, next_id}
 use Rattle.qsg_group.specs.declared.tasks.Claim.{Claim}
 use Rattle.qsg_group.specs.declared.tasks.Task.{Task}
-use Rattle.qsg_group.specs.Group.{Shelf, Group}
+use Rattle.qsg_group.specs.Group.{Shelf}
 use Rattle.qsg_group.specs.Tables.{at_structure, at_task}
-use Rattle.qsg_group.specs.Changes.{open_task, settling_task, is_commit, claim_of, with_entry, with_entries, settle, put, settled, MayPut, MaySettle, Change}
+use Rattle.qsg_group.specs.Changes.{open_task, settling_task, is_commit, claim_of, with_entry, with_entries, settle, put, settled, Change}
 use Rattle.qsg_group.specs.Changes.Change.{Puts, Settles}
 use Rattle.qsg_manager.specs.declared.managers.Manager.{Manager}
-use Rattle.qsg_manager.specs.Views.{body_of, is_outside, message_of, shelf_of}
+use Rattle.qsg_manager.specs.Views.{body_of, is_outside, message_of}
 use Rattle.qsg_manager.specs.Facilities.{structure_in, with_structure}
 use Rattle.qsg_manager.specs.Storage.{task_at, with_task}
 use Rattle.qsg_manager.specs.Groups.{Rest, group_of}
-use Rattle.qsg_manager.specs.Putting.{with_id, claim, with_put}
+use Rattle.qsg_manager.specs.Putting.{with_id, with_put}
 use Rattle.qsg_manager.specs.Settles.{commits, further}
-use Rattle.qsg_manager.specs.Actions.{IsMember, IsServed, MayWrite, MaySettleNext}
+use Rattle.qsg_manager.specs.Actions.{MayWrite, MaySettleNext}
 use Rattle.qsg_manager.proofs.Bridges.{write_adds, settle_settles}
 use Rattle.qsg_manager.proofs.Grouping.{both_changed}
 

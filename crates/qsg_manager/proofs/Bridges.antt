@@ -1,8 +1,7 @@
 -- entries of list structures and of the machine
-use Rattle.std.proofs.Common.{◌≡◌, ℕ, ◌+◌, ◌<◌, Bool, true, false, cond, List, [], ◌∷◌, ◌++◌, map, Option, Some, None, refl, sym, ap, subst, ◌∙◌, inl, inr, arith}
-use Rattle.std.specs.Prelude.{option_map, ◌==◌, ◌&&◌, ◌⊎◌}
-use Rattle.std.specs.List.{find, cons_option, AllByRecursion}
-use Rattle.std.proofs.lemmas.Bool.{cases_Bool, both_ways, eqb-true}
+use Rattle.std.proofs.Common.{◌≡◌, ℕ, ◌+◌, Bool, true, false, cond, List, [], ◌∷◌, ◌++◌, map, Option, Some, None, refl, sym, ap, ◌∙◌, arith}
+use Rattle.std.specs.Prelude.{option_map, ◌==◌}
+use Rattle.std.specs.List.{cons_option}
 use Rattle.std.proofs.lemmas.Bool.Decides.{nat_tests}
 use Rattle.std.proofs.lemmas.Option.{same_Some, none-some}
 use Rattle.qsg_num.specs.declared.seats.StructNo.{StructNo}
@@ -24,7 +23,7 @@ use Rattle.qsg_lists.specs.Entries as lists
 use Rattle.qsg_lists.specs.Writing.{written, next_id}
 use Rattle.qsg_lists.specs.Taking.{taken, if_served, mark_found, got_by}
 use Rattle.qsg_lists.specs.Settling.{settle_answer, settled_entry, settled_mark, revised_if_done, revise_if_done, told_by, removed_mark}
-use Rattle.qsg_group.specs.Group.{Held, Shelf}
+use Rattle.qsg_group.specs.Group.{Held}
 use Rattle.qsg_group.specs.Observers.{entry_at, revise}
 use Rattle.qsg_group.specs.Changes.{with_entry, with_entries, marked, removed, settle}
 use Rattle.qsg_group.specs.Changes as machine

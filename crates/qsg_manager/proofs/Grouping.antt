@@ -1,6 +1,5 @@
 -- what a change of structures or of managers is in the machine
-use Rattle.std.proofs.Common.{◌≡◌, ℕ, ◌+◌, ◌-◌, ◌<◌, ◌≤◌, Bool, true, false, List, [], ◌∷◌, ◌++◌, length, Option, Some, None, refl, sym, ap, subst, ◌∙◌, inl, inr, arith}
-use Rattle.std.specs.Prelude.{◌⊎◌}
+use Rattle.std.proofs.Common.{◌≡◌, ◌-◌, ◌<◌, ◌≤◌, List, length, sym, ap, subst, ◌∙◌, inl, inr, arith}
 use Rattle.std.proofs.lemmas.List.{get_or-set_same, get_or-set_other}
 use Rattle.qsg_num.specs.declared.seats.Member.{Member}
 use Rattle.qsg_num.specs.declared.seats.Member.TheVariants as members
@@ -8,30 +7,17 @@ use Rattle.qsg_num.specs.declared.seats.StructNo.{StructNo}
 use Rattle.qsg_num.specs.declared.seats.StructNo.TheVariants as structures
 use Rattle.qsg_num.specs.declared.seats.TaskNo.{TaskNo}
 use Rattle.qsg_num.specs.declared.seats.TaskNo.TheVariants as numbers
-use Rattle.qsg_num.specs.declared.ids.UnitName.{UnitName}
 use Rattle.qsg_num.specs.Seats.{member_number, structure_number, task_number}
-use Rattle.qsg_msg.specs.declared.message.Message.{Message}
-use Rattle.qsg_model.specs.declared.history.Op.{Op}
-use Rattle.qsg_model.specs.declared.history.Op.TheVariants.{Put, Got}
-use Rattle.qsg_lists.specs.declared.parts.Connection.{Connection}
-use Rattle.qsg_lists.specs.declared.parts.Head.{Head}
-use Rattle.qsg_lists.specs.declared.parts.Place.{Place}
-use Rattle.qsg_lists.specs.Structures.{ListStructure, lost_of}
-use Rattle.qsg_lists.specs.Settling.{settle_answer, settled_entry, revised_if_done}
-use Rattle.qsg_lists.specs.Writing.{written, next_id}
-use Rattle.qsg_group.specs.declared.tasks.Claim.{Claim}
+use Rattle.qsg_lists.specs.Structures.{ListStructure}
 use Rattle.qsg_group.specs.declared.tasks.Task.{Task}
-use Rattle.qsg_group.specs.Tables.{at_member, at_structure, at_task}
-use Rattle.qsg_group.specs.Group.{Shelf, Seat, Group, idle}
-use Rattle.qsg_group.specs.Changes.{open_task, settling_task, settling, is_commit, claim_of, put, drawn, settled, with_entry, with_entries, settle}
+use Rattle.qsg_group.specs.Tables.{at_structure, at_task}
+use Rattle.qsg_group.specs.Group.{Shelf, idle}
 use Rattle.qsg_group.proofs.Tables.{change-same, change-other, cases_structure, cases_member, cases_task, cases_at}
 use Rattle.qsg_manager.specs.declared.managers.Manager.{Manager}
-use Rattle.qsg_manager.specs.Views.{Outside, body_of, is_outside, message_of, shelf_of}
+use Rattle.qsg_manager.specs.Views.{Outside, shelf_of}
 use Rattle.qsg_manager.specs.Facilities.{structure_in, with_structure, no_structure}
-use Rattle.qsg_manager.specs.Storage.{task_in, with_task_in, no_manager, manager_in, task_at, with_manager, with_task, next_name, with_drawn}
+use Rattle.qsg_manager.specs.Storage.{task_in, with_task_in, no_manager, manager_in, task_at, with_manager, with_task}
 use Rattle.qsg_manager.specs.Groups.{seat_of, Rest, group_of}
-use Rattle.qsg_manager.specs.Putting.{with_id, claim, with_put}
-use Rattle.qsg_manager.proofs.Bridges.{write_adds, settle_settles}
 
 -- ---- numbers begin at 1
 

@@ -1,4 +1,9 @@
 pub mod Bridges
 pub mod Made
 pub mod Grouping
+pub mod Storing
+pub mod Takes
 pub mod Acting
+pub mod Needs
+pub mod Gets
+pub mod Ending

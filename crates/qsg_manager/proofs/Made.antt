@@ -1,5 +1,5 @@
 -- a task made anew from its parts
-use Rattle.std.proofs.Common.{◌≡◌, ℕ, List, [], ◌∷◌, ◌++◌, Option, Result, Ok, Err}
+use Rattle.std.proofs.Common.{◌≡◌, List, [], ◌∷◌, ◌++◌, Option, Result, Ok, Err}
 use Rattle.std.specs.Prelude.{OnOk}
 use Rattle.qsg_num.specs.declared.ids.EntryId.{EntryId}
 use Rattle.qsg_num.specs.declared.ids.UnitName.{UnitName}

@@ -1,5 +1,5 @@
 -- the structures of a group, by their numbers
-use Rattle.std.specs.Prelude.{ℕ, ◌-◌, List, [], slice_index_or, slice_set}
+use Rattle.std.specs.Prelude.{◌-◌, List, [], slice_index_or, slice_set}
 use Rattle.qsg_num.specs.declared.seats.StructNo.{StructNo}
 use Rattle.qsg_num.specs.Seats.{structure_number}
 use Rattle.qsg_lists.specs.declared.parts.State.TheVariants.{Active}

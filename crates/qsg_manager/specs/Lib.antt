@@ -3,5 +3,9 @@ pub mod Facilities
 pub mod Storage
 pub mod Groups
 pub mod Putting
+pub mod Getting
+pub mod Units
+pub mod Latches
+pub mod Rests
 pub mod Actions
 pub mod Settles

@@ -1,5 +1,5 @@
 -- what a put makes of its task
-use Rattle.std.specs.Prelude.{ℕ, [], ◌∷◌, ◌++◌, Option, Some, None, ◌≡◌}
+use Rattle.std.specs.Prelude.{[], ◌∷◌, ◌++◌, Option, Some, ◌≡◌}
 use Rattle.qsg_num.specs.declared.ids.EntryId.{EntryId}
 use Rattle.qsg_msg.specs.declared.message.Message.{Message}
 use Rattle.qsg_model.specs.declared.history.Op.TheVariants.{Put}

@@ -1,5 +1,5 @@
 -- what members keep, by the numbers of members and tasks
-use Rattle.std.specs.Prelude.{ℕ, ◌+◌, ◌-◌, Bool, false, List, [], slice_index_or, slice_set}
+use Rattle.std.specs.Prelude.{◌+◌, ◌-◌, false, List, [], slice_index_or, slice_set}
 use Rattle.qsg_num.specs.declared.seats.Member.{Member}
 use Rattle.qsg_num.specs.declared.seats.TaskNo.{TaskNo}
 use Rattle.qsg_num.specs.declared.ids.UnitName.{UnitName}

@@ -56,6 +56,13 @@ impl Tasks {
         Ok(Tasks { items })
     }
 
+    /// The tasks, in order of their numbers.
+    pub fn as_slice(&self) -> &[Task]
+        ensures { result.now ≡ self.now }
+    {
+        self.items.as_slice()
+    }
+
     /// A task.
     pub fn task(&self, number: TaskNo) -> &Task
         ensures { result.now ≡ task_in number self.now }
@@ -69,6 +76,13 @@ impl Tasks {
         ensures replaced { self.new ≡ with_task_in number task self.old }
     {
         mem::replace(&mut self.items[usize::from(number.get())], task)
+    }
+
+    /// Sets the stage of a task's unit.
+    pub fn set_stage(&mut self, number: TaskNo, stage: Stage)
+        ensures { self.new ≡ with_task_in number (record (task_in number self.old) { stage = stage }) self.old }
+    {
+        self.items[usize::from(number.get())].stage = stage;
     }
 }
 
@@ -102,6 +116,7 @@ impl Managers {
     ghost use Rattle.std.specs.Prelude.{Some};
     ghost use Rattle.qsg_num.specs.Seats.{member_number};
     ghost use Rattle.qsg_manager.specs.Storage.{task_at, manager_in, with_task, with_drawn, next_name};
+    ghost use Rattle.qsg_manager.specs.Units.{with_stage};
 
     /// Those of a `Vec`, in order of their numbers. Takes no memory.
     pub fn from_vec(items: Vec<Manager>) -> Managers
@@ -125,6 +140,30 @@ impl Managers {
         &self.items[member.index()]
     }
 
+    /// A task of a member.
+    pub fn task(&self, member: Member, number: TaskNo) -> &Task
+        requires within { member_number member ≤ length self.now }
+        ensures { result.now ≡ task_at member number self.now }
+    {
+        self.items[member.index()].tasks.task(number)
+    }
+
+    /// The name that a task of a member holds, if it does.
+    pub fn name(&self, member: Member, number: TaskNo) -> Option<UnitName>
+        requires within { member_number member ≤ length self.now }
+        ensures { result ≡ (task_at member number self.now).unit }
+    {
+        self.task(member, number).unit
+    }
+
+    /// How many operations the unit of a task has.
+    pub fn operations(&self, member: Member, number: TaskNo) -> usize
+        requires within { member_number member ≤ length self.now }
+        ensures { result ≡ length (task_at member number self.now).ops }
+    {
+        self.task(member, number).ops.len()
+    }
+
     /// Puts a task of a member in place of another, which it gives.
     pub fn replace_task(&mut self, member: Member, number: TaskNo, task: Task) -> Task
         requires within { member_number member ≤ length self.old }
@@ -132,6 +171,14 @@ impl Managers {
         ensures replaced { self.new ≡ with_task member number task self.old }
     {
         self.items[member.index()].tasks.replace(number, task)
+    }
+
+    /// Sets the stage of a unit.
+    pub fn set_stage(&mut self, member: Member, number: TaskNo, stage: Stage)
+        requires within { member_number member ≤ length self.old }
+        ensures { self.new ≡ with_stage member number stage self.old }
+    {
+        self.items[member.index()].tasks.set_stage(number, stage);
     }
 
     /// Draws the next name of a member's unit.

@@ -24,14 +24,14 @@ pub fn next_claim(task: &Task) -> Option<Claim>
 }
 
 /// Whether a unit settles its marks as one that is committed.
-fn commits(stage: Stage) -> bool
+pub fn commits(stage: Stage) -> bool
     ensures { result ≡ commits stage }
 {
     matches!(stage, Stage::Committed { .. })
 }
 
 /// The stage of a unit with so many claims, one more of them settled.
-fn further(stage: Stage, claims: usize) -> Stage
+pub fn further(stage: Stage, claims: usize) -> Stage
     requires { settled_of stage < claims }
     ensures { result ≡ further stage }
 {

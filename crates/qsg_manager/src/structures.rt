@@ -1,9 +1,10 @@
 //! The list structures of a group, by their numbers.
 
-ghost use Rattle.std.specs.Prelude.{◌≡◌, ◌≤◌, ◌<◌, ◌+◌, ◌-◌, ◌^◌, ℕ, List, OnOk, OnErr, IfOk, IfErr, None, length, slice_set};
+ghost use Rattle.std.specs.Prelude.{◌≡◌, ◌≤◌, ◌<◌, ◌+◌, ◌-◌, ◌^◌, ℕ, List, OnOk, OnErr, IfOk, IfErr, None, option_map, length, slice_set};
 
-use qsg_lists::{Connection, Head, Lost, Place, Seen, Settled, Structure, WriteRefused};
-use qsg_num::{EntryId, StructNo, UnitName};
+use crate::taken::{Room, Taken};
+use qsg_lists::{Connection, Head, Lost, Place, Seen, Selector, Settled, Structure, WriteRefused};
+use qsg_num::{Delivery, EntryId, StructNo, UnitName};
 use std::marker::Model;
 
 /// The list structures of a group, by their numbers.
@@ -24,10 +25,12 @@ impl Model for Structures {
 impl Structures {
     ghost use Rattle.qsg_num.specs.Seats.{structure_number};
     ghost use Rattle.qsg_lists.specs.Structures.{ListStructure, IsSound, connect_answer, lost_of, unless};
-    ghost use Rattle.qsg_lists.specs.Entries.{depth_of};
+    ghost use Rattle.qsg_lists.specs.Entries.{depth_of, first_of};
     ghost use Rattle.qsg_lists.specs.Settling.{settle_answer, settled_entry, revised_if_done};
+    ghost use Rattle.qsg_lists.specs.Taking.{taken};
     ghost use Rattle.qsg_lists.specs.Writing.{write_refusal, next_id, written, IsWhy};
     ghost use Rattle.qsg_manager.specs.Facilities.{structure_in, with_structure};
+    ghost use Rattle.qsg_manager.specs.Getting.{found_in, taken_of};
 
     /// Those of a `Vec`, in order of their numbers. Takes no memory.
     pub fn from_vec(items: Vec<Structure>) -> Structures
@@ -79,6 +82,50 @@ impl Structures {
     {
         let chosen = &mut self.items[connection.structure.index()];
         chosen.write_entry(connection, unit, head, place, max_depth)
+    }
+
+    /// Marks the entry of a queue that is to be delivered next as got by the unit, and gives a copy of it.
+    pub fn take(
+        &mut self,
+        connection: Connection,
+        unit: UnitName,
+        room: Room,
+        order: Delivery,
+        select: &Selector,
+    ) -> Result<Option<Taken>, Lost>
+        requires within { structure_number connection.structure ≤ length self.old }
+        ensures answer { result ≡ unless (lost_of (structure_in connection.structure self.old) connection) (option_map taken_of (found_in connection room order select.now self.old)) }
+        ensures after { self.new ≡ with_structure connection.structure (taken (structure_in connection.structure self.old) connection unit room order select.now) self.old }
+    {
+        let chosen = &mut self.items[connection.structure.index()];
+        Structures::take_from(chosen, connection, unit, room, order, select)
+    }
+
+    /// The same of one structure.
+    fn take_from(
+        chosen: &mut Structure,
+        connection: Connection,
+        unit: UnitName,
+        room: Room,
+        order: Delivery,
+        select: &Selector,
+    ) -> Result<Option<Taken>, Lost>
+        ensures answer { result ≡ unless (lost_of chosen.old connection) (option_map taken_of (first_of room order select.now chosen.old.entries)) }
+        ensures after { chosen.new ≡ taken chosen.old connection unit room order select.now }
+    {
+        match chosen.take(connection, unit, room.queue(), order, select) {
+            Ok(Some(entry)) => Ok(Some(room.fill(entry))),
+            Ok(None) => Ok(None),
+            Err(lost) => Err(lost),
+        }
+    }
+
+    /// What every structure keeps.
+    pub fn kept(&self, structure: StructNo)
+        requires within { structure_number structure ≤ length self.now }
+        ensures { IsSound (structure_in structure self.now) }
+    {
+        self.items[structure.index()].kept();
     }
 
     /// Takes the mark of a unit off an entry.

@@ -1,4 +1,4 @@
-//! A put and its settling, over a structure and a task.
+//! A put and its settling, over a structure and a task; units that put, get, and end.
 
 ghost use Rattle.std.specs.Prelude.{◌≡◌, length, IfSome};
 ghost use Rattle.qsg_num.specs.declared.seats.StructNo.TheVariants as structure;
@@ -8,11 +8,12 @@ ghost use Rattle.qsg_manager.specs.Storage.{manager_in};
 
 use super::*;
 use qsg_group::{Stage, Task};
-use qsg_lists::{Connection, Head, Place, Settled, Structure, WriteWhy};
+use qsg_lists::{Connection, Head, Place, Selector, Settled, Structure, WriteWhy};
+use qsg_model::History;
 use qsg_msg::Message;
 use qsg_num::{
-    Body, EntryId, Incarnation, InlineBody, Member, Name, PageNo, Priority, QueueName, StructNo,
-    TaskNo, UnitName,
+    Body, Delivery, EntryId, Incarnation, InlineBody, Member, Name, PageNo, Priority, QueueName,
+    StructNo, TaskNo, UnitName,
 };
 use std::alloc::Global;
 use std::test::*;
@@ -152,4 +153,128 @@ fn a_member_draws_names_in_order(rt: HostRuntime) {
         managers.manager(Member::One).tasks.task(TaskNo::Three).unit,
         None
     );
+}
+
+/// A structure of ten elements.
+fn one_structure(alloc: Global) -> Option<Structures>
+    ensures one { IfSome result (λ s. length s ≡ 1) }
+    ensures empty { IfSome result (λ s. (structure_in structure.One s).last ≡ 0) }
+{
+    let mut items = Vec::new(alloc);
+    items.push(Structure::new(alloc, StructNo::One, 10)).ok()?;
+    Some(Structures::from_vec(items))
+}
+
+/// No wish.
+const ANY: Selector = Selector {
+    msg_id: None,
+    correl_id: None,
+};
+
+#[test]
+fn a_unit_puts_and_commits(rt: HostRuntime) {
+    let alloc = rt.alloc();
+    let (Some(mut structures), Some(mut managers), Some(entry)) = (
+        one_structure(alloc),
+        one_member(alloc),
+        hello(alloc, 1),
+    ) else {
+        assert!(rt; false);
+        return;
+    };
+    let mut history = History::new(alloc);
+    assert_eq!(rt;
+        draw_name(alloc, &mut managers, Member::One, TaskNo::Two),
+        UNIT
+    );
+    let put = put_entry(
+        alloc,
+        &mut structures,
+        &mut managers,
+        UNIT,
+        TaskNo::Two,
+        NOW,
+        entry,
+    );
+    assert!(rt; put.is_ok());
+    assert_eq!(rt; managers.operations(Member::One, TaskNo::Two), 1);
+    begin_unit(
+        &mut managers,
+        Member::One,
+        TaskNo::Two,
+        PageNo { number: 7 },
+    );
+    assert_eq!(rt; latch(&managers, Member::One), Some(TaskNo::Two));
+    if history.reserve(1).is_err() {
+        assert!(rt; false);
+        return;
+    }
+    harden_unit(alloc, &mut managers, &mut history, UNIT, TaskNo::Two);
+    assert_eq!(rt; history.len(), 1);
+    assert_eq!(rt; latch(&managers, Member::One), None);
+    assert_eq!(rt;
+        first_needed(&managers, Member::One),
+        Some(PageNo { number: 7 })
+    );
+    finish_unit(alloc, &mut managers, Member::One, TaskNo::Two);
+    assert_eq!(rt; managers.name(Member::One, TaskNo::Two), None);
+}
+
+/// A structure in which a message waits: `hello` of queue `Q1`, persistent.
+fn with_message(alloc: Global) -> Option<Structures>
+    ensures one { IfSome result (λ s. length s ≡ 1) }
+{
+    let (mut structures, mut task) = parts(alloc)?;
+    write_entry(
+        alloc,
+        &mut structures,
+        &mut task,
+        NOW,
+        UNIT,
+        hello(alloc, 1)?,
+    )
+    .ok()?;
+    let id = EntryId { number: 1 };
+    structures.settle(NOW, id, UNIT, true).ok()?;
+    Some(structures)
+}
+
+#[test]
+fn a_unit_gets_and_backs_out(rt: HostRuntime) {
+    let alloc = rt.alloc();
+    let (Some(mut structures), Some(mut managers), Some(name)) = (
+        with_message(alloc),
+        one_member(alloc),
+        queue(alloc),
+    ) else {
+        assert!(rt; false);
+        return;
+    };
+    let task = TaskNo::One;
+    let unit = draw_name(alloc, &mut managers, Member::One, task);
+    let Ok(Some(taken)) = get_entry(
+        alloc,
+        &mut structures,
+        &mut managers,
+        unit,
+        task,
+        NOW,
+        &name,
+        Delivery::Fifo,
+        &ANY,
+    ) else {
+        assert!(rt; false);
+        return;
+    };
+    assert!(rt;
+        matches!(&taken.body, TakenBody::Inside(body) if body.as_slice() == b"hello".as_slice())
+    );
+    assert_eq!(rt; managers.operations(Member::One, task), 1);
+    back_out_unit(alloc, &mut managers, Member::One, task);
+    assert_eq!(rt; managers.operations(Member::One, task), 0);
+    let Some(claim) = next_claim(managers.task(Member::One, task)) else {
+        assert!(rt; false);
+        return;
+    };
+    assert_eq!(rt; claim.id, taken.id);
 }

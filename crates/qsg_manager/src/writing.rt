@@ -36,7 +36,7 @@ pub struct PutRefused {
 }
 
 /// Adds an element for which there is room.
-fn push_reserved<T: Drop>(items: &mut Vec<T>, item: T)
+pub fn push_reserved<T: Drop>(items: &mut Vec<T>, item: T)
     requires { vec_len items.old < vec_capacity items.old }
     ensures { items.new.items ≡ items.old.items ++ item ∷ [] }
 {

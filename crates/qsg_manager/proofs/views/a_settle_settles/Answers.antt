@@ -1,4 +1,4 @@
-use Rattle.qsg_manager.proofs.Bridges.{found, write_adds, take_marks, settle_settles}
+use Rattle.qsg_manager.proofs.Bridges.{settle_settles}
 use Rattle.qsg_manager.proofs.views.a_settle_settles.Goals as goal
 
 pub returns : goal.returns

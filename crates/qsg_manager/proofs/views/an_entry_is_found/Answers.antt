@@ -1,4 +1,4 @@
-use Rattle.qsg_manager.proofs.Bridges.{found, write_adds, take_marks, settle_settles}
+use Rattle.qsg_manager.proofs.Bridges.{found}
 use Rattle.qsg_manager.proofs.views.an_entry_is_found.Goals as goal
 
 pub returns : goal.returns

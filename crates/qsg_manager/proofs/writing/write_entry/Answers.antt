@@ -1,4 +1,4 @@
-use Rattle.std.proofs.Common.{◌≡◌, ap, sym, ◌∙◌}
+use Rattle.std.proofs.Common.{ap, ◌∙◌}
 use Rattle.qsg_group.specs.declared.tasks.Task.{Task}
 use Rattle.qsg_manager.proofs.Made.{put_made}
 use Rattle.qsg_manager.proofs.writing.write_entry.Goals as goal
