@@ -1,0 +1,4 @@
+pub mod Within
+pub mod Columns
+pub mod Owners
+pub mod Holding
