@@ -1,0 +1,6 @@
+pub mod Runs
+pub mod Writing
+pub mod Finishing
+pub mod Fitting
+pub mod Serving
+pub mod Stepping

@@ -1,0 +1,4 @@
+pub mod Moving
+pub mod Records
+pub mod Answering
+pub mod Onward
