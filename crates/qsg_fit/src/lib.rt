@@ -1,0 +1,11 @@
+//! Requests in progress in a group between two steps: one that fits how its task stands may make its next step, and goes
+//! on to fit, whatever other tasks do.
+//!
+//! - `laws`: what holds of requests that fit.
+#![tactic(auto)]
+
+mod laws;
+
+pub use laws::{
+    a_request_fits_at_first, a_request_that_fits_may_step, a_request_that_is_spared_fits,
+};

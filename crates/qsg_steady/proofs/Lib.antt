@@ -1,0 +1,15 @@
+pub mod Seen
+pub mod Places
+pub mod Moving
+pub mod Sparing
+pub mod Acting
+pub mod Reserving
+pub mod Operating
+pub mod Ending
+pub mod Writing
+pub mod Committing
+pub mod Starts
+pub mod Publishing
+pub mod Spares
+pub mod Gives
+pub mod Founded

@@ -1,0 +1,9 @@
+use Rattle.qsg_steady.proofs.Ending.{given_up_steady}
+use Rattle.qsg_steady.proofs.Spares.{given_up_spares}
+use Rattle.qsg_steady.proofs.keeping.a_backout_keeps_the_group_steady.Goals as goal
+
+pub returns-clause-steady : goal.returns-clause-steady
+returns-clause-steady c = given_up_steady
+
+pub returns-clause-spares : goal.returns-clause-spares
+returns-clause-spares c = given_up_spares

@@ -1,0 +1,8 @@
+use Rattle.qsg_steady.proofs.Reserving.{drawn_steady, drawn_spares}
+use Rattle.qsg_steady.proofs.keeping.a_draw_keeps_the_group_steady.Goals as goal
+
+pub returns-clause-steady : goal.returns-clause-steady
+returns-clause-steady c = drawn_steady
+
+pub returns-clause-spares : goal.returns-clause-spares
+returns-clause-spares c = drawn_spares

@@ -1,0 +1,9 @@
+use Rattle.qsg_steady.proofs.Operating.{got_steady}
+use Rattle.qsg_steady.proofs.Spares.{got_spares}
+use Rattle.qsg_steady.proofs.keeping.a_get_keeps_the_group_steady.Goals as goal
+
+pub returns-clause-steady : goal.returns-clause-steady
+returns-clause-steady c = got_steady
+
+pub returns-clause-spares : goal.returns-clause-spares
+returns-clause-spares c = got_spares

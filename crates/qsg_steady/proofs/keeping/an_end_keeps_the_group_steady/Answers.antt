@@ -1,0 +1,9 @@
+use Rattle.qsg_steady.proofs.Ending.{ended_steady}
+use Rattle.qsg_steady.proofs.Spares.{ended_spares}
+use Rattle.qsg_steady.proofs.keeping.an_end_keeps_the_group_steady.Goals as goal
+
+pub returns-clause-steady : goal.returns-clause-steady
+returns-clause-steady c = ended_steady
+
+pub returns-clause-spares : goal.returns-clause-spares
+returns-clause-spares c = ended_spares

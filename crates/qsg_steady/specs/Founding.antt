@@ -1,0 +1,47 @@
+-- a group in which nothing has happened yet
+use Rattle.std.specs.Prelude.{ℕ, ◌≡◌, ◌≤◌, ◌<◌, ◌*◌, true, false, [], length, None, replicate}
+use Rattle.std.specs.List.{AllByRecursion}
+use Rattle.qsg_num.specs.declared.seats.Member.{Member}
+use Rattle.qsg_disk.specs.Byte.{zero_byte}
+use Rattle.qsg_lists.specs.declared.parts.State.TheVariants.{Active}
+use Rattle.qsg_group.specs.Group.{idle}
+use Rattle.qsg_manager.specs.declared.managers.Manager.{Manager}
+use Rattle.qsg_repo.specs.Calls.{is_unresolved}
+use Rattle.qsg_repo.specs.Tables.{page_at, no_holds}
+use Rattle.qsg_lists.specs.Structures.{ListStructure}
+use Rattle.qsg_logs.specs.Kept.{KeptLog, no_fillings}
+use Rattle.qsg_logs.specs.Writers.{new_writer}
+use Rattle.qsg_parts.specs.Owned.{Owned, HasStructures}
+
+-- a member in its first incarnation, whose tasks hold nothing
+abbrev pub new_manager : Manager
+new_manager = record { up = true; incarnation = record { number = 1 }; next = 1; tasks = replicate 5 idle }
+
+-- a log of some pages with nothing written, over zeros where its device tells its bytes
+pub record IsNewLog (log : KeptLog) : Type 0 where
+  pub some : 0 < log.writer.size
+  pub writer : log.writer ≡ new_writer log.writer.size
+  pub fillings : log.fillings ≡ no_fillings
+  pub zeros : log.tells ≡ true → log.bytes ≡ replicate (4096 * log.writer.size) zero_byte
+
+-- a structure is active, empty and in epoch 0
+pub record IsNewStructure (structure : ListStructure) : Type 0 where
+  pub state : structure.state ≡ Active
+  pub epoch : structure.epoch ≡ 0
+  pub last : structure.last ≡ 0
+  pub entries : structure.entries ≡ []
+
+-- Structures and logs are new, members are up for the first time, no incarnation failed, and the repository has no
+-- note and no hold.
+pub record IsNew (p : Owned) : Type 0 where
+  pub members : length p.logs ≡ length p.managers
+  pub few : length p.managers ≤ 8
+  pub defined : HasStructures p
+  pub managers : AllByRecursion (λ (x : Manager). x ≡ new_manager) p.managers
+  pub logs : AllByRecursion IsNewLog p.logs
+  pub structures : AllByRecursion IsNewStructure p.structures
+  pub unfailed : (m : Member) (i : ℕ) → is_unresolved m (record { number = i }) p.repo ≡ false
+  pub lows : p.repo.lows ≡ replicate 8 (page_at 0)
+  pub notes : p.repo.notes ≡ replicate 4 None
+  pub holds : p.repo.holds ≡ replicate 8 no_holds
+  pub history : p.history.items ≡ []

@@ -1,0 +1,4 @@
+pub mod Steady
+pub mod Standing
+pub mod Actions
+pub mod Founding
