@@ -1,0 +1,4 @@
+pub mod Answers
+pub mod Labels
+pub mod Texts
+pub mod Waits
