@@ -43,8 +43,12 @@ fn first_wrong(alloc: Global, rows: &[(&[u8], &str)]) -> Result<Option<usize>, A
 #[test]
 fn plans(rt: HostRuntime) -> Result<(), Fail> {
     let alloc = rt.alloc();
-    let rows: [(&[u8], &str); 3] = [
+    let rows: [(&[u8], &str); 4] = [
         (b"GROUP QSG1\nEND\n", "plan of 1 works, 0 turns"),
+        (
+            b"GROUP QSG1\nMEMBER QM1\nDEFINE CFSTRUCT(APP1) CFLEVEL(5) OFFLOAD(SMDS) DSGROUP('QSG1.*.APP1')\nDEFINE QLOCAL(Q1) QSGDISP(SHARED) CFSTRUCT(APP1)\nTASK QM1 1\nPUT Q1 BODY('hello')\nCOMMIT\nEND\n",
+            "plan of 2 works, 0 turns",
+        ),
         (
             b"* one member\nGROUP QSG1\nMEMBER QM1\nTASK QM1 1\nPUT Q1 BODY('x')\nEND",
             "plan of 2 works, 0 turns",
