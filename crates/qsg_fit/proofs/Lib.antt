@@ -1,1 +1,4 @@
 pub mod Fitting
+pub mod Opened
+pub mod Puts
+pub mod Gets
