@@ -1,19 +1,29 @@
--- how a step of a put or a get leaves the group and its request
-use Rattle.std.specs.Prelude.{ℕ, ◌+◌, ◌≡◌, ◌≤◌, true, List, length, Some}
+-- how a step of a request leaves the group and the request
+use Rattle.std.specs.Prelude.{ℕ, ◌+◌, ◌≡◌, ◌≤◌, true, List, length, Option, Some, None}
 use Rattle.qsg_num.specs.declared.seats.Member.{Member}
 use Rattle.qsg_num.specs.declared.seats.TaskNo.{TaskNo}
+use Rattle.qsg_num.specs.declared.seats.StructNo.{StructNo}
+use Rattle.qsg_num.specs.declared.ids.UnitName.{UnitName}
 use Rattle.qsg_num.specs.Seats.{structure_number}
+use Rattle.qsg_model.specs.declared.history.Op.{Op}
 use Rattle.qsg_objects.specs.declared.registry.Queue.{Queue}
 use Rattle.qsg_objects.specs.Registry.{Registry, queue_named}
 use Rattle.qsg_requests.specs.declared.words.PutWords.{PutWords}
 use Rattle.qsg_requests.specs.declared.replies.Turn.{Turn}
 use Rattle.qsg_requests.specs.declared.replies.Turn.TheVariants.{More, Ended, Waits}
-use Rattle.qsg_manager.specs.Storage.{manager_in}
+use Rattle.qsg_group.specs.declared.tasks.Claim.{Claim}
+use Rattle.qsg_group.specs.declared.tasks.Task.{Task}
+use Rattle.qsg_group.specs.Changes.{hardening_task, settling_task}
+use Rattle.qsg_manager.specs.Settles.{next_claim}
+use Rattle.qsg_manager.specs.Storage.{manager_in, task_at}
 use Rattle.qsg_logs.specs.Held.{is_open}
 use Rattle.qsg_parts.specs.Owned.{Owned, HasMember}
 use Rattle.qsg_steady.specs.Actions.{IsLogKept}
 use Rattle.qsg_steady.specs.Standing.{Stand, stand, SparesOthers}
 use Rattle.qsg_steady.specs.Steady.{IsSteady}
+use Rattle.qsg_commit.specs.declared.phases.Phase.{Phase as EndPhase}
+use Rattle.qsg_commit.specs.declared.phases.Phase.TheVariants as end_phase
+use Rattle.qsg_commit.specs.Next.{Next as NextEnd}
 use Rattle.qsg_get.specs.declared.phases.Phase.{Phase as GetPhase}
 use Rattle.qsg_get.specs.declared.phases.Phase.TheVariants as get_phase
 use Rattle.qsg_get.specs.Steps.{Next as NextGet}
@@ -84,3 +94,31 @@ KeepsPut a b m t words p next = Keeps a b m t p next.parts next.turn (FitsPut m 
 
 abbrev pub KeepsGet : ℕ → ℕ → Member → TaskNo → Owned → NextGet → Type 0
 KeepsGet a b m t p next = Keeps a b m t p next.parts next.turn (FitsGet m (stand m t next.parts) next.phase)
+
+-- ---- a COMMIT or BACKOUT
+
+-- the run of this unit, which the task holds, is being written
+pub record IsHardening (u : UnitName) (task : Task) : Type 0 where
+  pub ops : List (StructNo × Op)
+  pub claims : List Claim
+  pub first : ℕ
+  pub is : task ≡ hardening_task u ops claims first
+
+-- only the marks are left of this unit, which the task holds
+pub record IsSettling (u : UnitName) (task : Task) : Type 0 where
+  pub claims : List Claim
+  pub first : Option ℕ
+  pub count : ℕ
+  pub is : task ≡ settling_task u claims first count
+
+-- how the task stands at a phase
+abbrev pub FitsEnd : Task → EndPhase → Type 0
+FitsEnd task end_phase.Latch = is_open task.stage ≡ true
+FitsEnd task (end_phase.Pages u count) = IsHardening u task
+FitsEnd task (end_phase.Settle u count) = IsSettling u task
+FitsEnd task (end_phase.Publish u count) = IsSettling u task × (next_claim task ≡ None)
+FitsEnd task end_phase.GiveUp = is_open task.stage ≡ true
+FitsEnd task (end_phase.Undo u count) = IsSettling u task
+
+abbrev pub KeepsEnd : ℕ → ℕ → Member → TaskNo → Owned → NextEnd → Type 0
+KeepsEnd a b m t p next = Keeps a b m t p next.parts next.turn (FitsEnd (task_at m t next.parts.managers) next.phase)

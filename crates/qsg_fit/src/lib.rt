@@ -1,13 +1,20 @@
 //! Requests in progress in a group between two steps: one that fits how its task stands may make its next step, and goes
 //! on to fit, whatever other tasks do.
 //!
+//! - `ends`: what each step of a COMMIT or BACKOUT keeps.
 //! - `laws`: what holds of requests that fit.
-//! - `steps`: what each step of a request keeps.
+//! - `steps`: what each step of a put or a get keeps.
 #![tactic(auto)]
 
+mod ends;
 mod laws;
 mod steps;
 
+pub use ends::{
+    a_backout_that_begins_keeps_the_group_steady, a_failed_page_keeps_the_group_steady,
+    a_latch_keeps_the_group_steady, a_mark_keeps_the_group_steady, a_page_keeps_the_group_steady,
+    an_end_of_a_commit_keeps_the_group_steady, an_undone_mark_keeps_the_group_steady,
+};
 pub use laws::{
     a_request_fits_at_first, a_request_that_fits_may_step, a_request_that_is_spared_fits,
 };
