@@ -4,3 +4,9 @@ pub mod Puts
 pub mod Gets
 pub mod Settling
 pub mod Running
+pub mod Still
+pub mod Roomy
+pub mod Undisturbed
+pub mod Begun
+pub mod Endings
+pub mod Requests

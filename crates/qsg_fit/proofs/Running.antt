@@ -1,7 +1,5 @@
 -- the steps of a COMMIT up to where its unit is in the history leave the group steady
-use Rattle.std.proofs.Common.{◌≡◌, ℕ, ◌+◌, ◌-◌, ◌≤◌, length, Bool, true, false, Option, Some, None, refl, sym, ap, subst, ◌∙◌, cond, arith, true≢false}
-use Rattle.std.specs.Prelude.{nat_lt, option_map}
-use Rattle.std.proofs.lemmas.Option.{same_Some, none-some}
+use Rattle.std.proofs.Common.{◌≡◌, ℕ, ◌+◌, Bool, true, false, Option, Some, None, refl, sym, ap, subst, ◌∙◌, arith, true≢false}
 use Rattle.qsg_num.specs.declared.seats.Member.{Member}
 use Rattle.qsg_num.specs.declared.seats.TaskNo.{TaskNo}
 use Rattle.qsg_num.specs.declared.ids.UnitName.{UnitName}
@@ -9,7 +7,7 @@ use Rattle.qsg_requests.specs.declared.replies.Turn.TheVariants.{More}
 use Rattle.qsg_logpage.specs.Log.{Hand, LogState, advanced}
 use Rattle.qsg_group.specs.declared.tasks.Stage.TheVariants.{Hardening}
 use Rattle.qsg_group.specs.declared.tasks.Task.{Task}
-use Rattle.qsg_group.specs.Changes.{open_task, hardening_task, settling_task}
+use Rattle.qsg_group.specs.Changes.{hardening_task}
 use Rattle.qsg_group.specs.Observers.{is_hardening}
 use Rattle.qsg_unitlog.specs.Sets.{structures_of}
 use Rattle.qsg_unitlog.specs.Tells.{ends_run}
@@ -35,7 +33,7 @@ use Rattle.qsg_commit.specs.Committing as ends
 use Rattle.qsg_commit.specs.Next.{after_page}
 use Rattle.qsg_commit.specs.Pending.{pending}
 use Rattle.qsg_commit.proofs.Writing.{ends_is}
-use Rattle.qsg_fit.specs.Outcomes.{IsHardening, IsSettling, FitsEnd, KeepsEnd}
+use Rattle.qsg_fit.specs.Outcomes.{IsHardening, FitsEnd, KeepsEnd}
 use Rattle.qsg_fit.proofs.Opened.{opened, task_stored}
 use Rattle.qsg_fit.proofs.Settling.{pending_unit}
 

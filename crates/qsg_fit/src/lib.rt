@@ -4,11 +4,13 @@
 //! - `ends`: what each step of a COMMIT or BACKOUT keeps.
 //! - `laws`: what holds of requests that fit.
 //! - `steps`: what each step of a put or a get keeps.
+//! - `works`: what each step of a request keeps, whatever its kind.
 #![tactic(auto)]
 
 mod ends;
 mod laws;
 mod steps;
+mod works;
 
 pub use ends::{
     a_backout_that_begins_keeps_the_group_steady, a_failed_page_keeps_the_group_steady,
@@ -19,3 +21,7 @@ pub use laws::{
     a_request_fits_at_first, a_request_that_fits_may_step, a_request_that_is_spared_fits,
 };
 pub use steps::{a_step_of_a_get_keeps_the_group_steady, a_step_of_a_put_keeps_the_group_steady};
+pub use works::{
+    a_failed_step_of_a_request_keeps_the_group_steady, a_request_that_is_undisturbed_fits,
+    a_step_of_a_request_keeps_the_group_steady, a_step_that_wants_memory_keeps_the_group_steady,
+};

@@ -1,0 +1,5 @@
+use Rattle.qsg_fit.proofs.Requests.{request_keeps}
+use Rattle.qsg_fit.proofs.works.a_step_of_a_request_keeps_the_group_steady.Goals as goal
+
+pub returns : goal.returns
+returns c = request_keeps

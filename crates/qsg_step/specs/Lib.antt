@@ -1,0 +1,4 @@
+pub mod Asking
+pub mod States
+pub mod Waiting
+pub mod Steps

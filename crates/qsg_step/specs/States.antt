@@ -1,0 +1,54 @@
+-- what contracts see of a group that works its plan
+use Rattle.std.specs.Prelude.{ℕ, ◌-◌, ◌≡◌, ◌≤◌, Bool, true, false, not, ◌&&◌, List, length, Option, slice_index_or, slice_set}
+use Rattle.std.specs.List.{AllByRecursion}
+use Rattle.qsg_num.specs.declared.seats.Member.{Member}
+use Rattle.qsg_num.specs.declared.ids.Actor.{Actor}
+use Rattle.qsg_num.specs.declared.ids.Actor.TheVariants as actor
+use Rattle.qsg_num.specs.Seats.{member_number}
+use Rattle.qsg_objects.specs.declared.plans.MemberDef.{MemberDef}
+use Rattle.qsg_objects.specs.declared.plans.Size.{Size}
+use Rattle.qsg_agenda.specs.Courses.{Course}
+use Rattle.qsg_directives.specs.Asking.{IsRight}
+use Rattle.qsg_manager.specs.Storage.{manager_in}
+use Rattle.qsg_parts.specs.Owned.{Owned}
+use Rattle.qsg_works.specs.declared.work.Work.{Work}
+
+-- what it owns, what its actors are to do and answered, the work that each task has in hand, of each member whether its
+-- log failed, and what the plan says besides
+pub record State : Type 0 where
+  pub parts : Owned
+  pub courses : List Course
+  pub works : List (Option Work)
+  pub failed : List Bool
+  pub group : List ℕ
+  pub members : List MemberDef
+  pub sizes : List Size
+
+-- a write or a sync of the member's log failed
+abbrev pub has_failed : Member → State → Bool
+has_failed m s = slice_index_or s.failed (member_number m - 1) false
+
+abbrev pub with_failed : Member → Bool → List Bool → List Bool
+with_failed m has failed = slice_set failed (member_number m - 1) has
+
+-- a member that makes steps
+abbrev pub is_member_up : Member → State → Bool
+is_member_up m s = (manager_in m s.parts.managers).up && not (has_failed m s)
+
+-- the operator has no member, and is always there
+abbrev pub is_up : Actor → State → Bool
+is_up (actor.Task m t) s = is_member_up m s
+is_up actor.Operator s = true
+
+-- the group has the member of an actor
+abbrev pub IsWithin : Actor → ℕ → Type 0
+IsWithin (actor.Task m t) members = member_number m ≤ members
+IsWithin actor.Operator members = Unit {0}
+
+-- bodies that are given by their size are at most the longest one
+abbrev pub IsCourseRight : Course → Type 0
+IsCourseRight c = AllByRecursion IsRight c.directives
+
+pub record IsSound (s : State) : Type 0 where
+  pub directives : AllByRecursion IsCourseRight s.courses
+  pub eight : length s.failed ≡ 8
