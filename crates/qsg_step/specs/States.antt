@@ -1,5 +1,5 @@
 -- what contracts see of a group that works its plan
-use Rattle.std.specs.Prelude.{ℕ, ◌-◌, ◌≡◌, ◌≤◌, Bool, true, false, not, ◌&&◌, List, length, Option, slice_index_or, slice_set}
+use Rattle.std.specs.Prelude.{ℕ, ◌-◌, ◌≤◌, Bool, true, false, not, ◌&&◌, List, Option, slice_index_or, slice_set}
 use Rattle.std.specs.List.{AllByRecursion}
 use Rattle.qsg_num.specs.declared.seats.Member.{Member}
 use Rattle.qsg_num.specs.declared.ids.Actor.{Actor}
@@ -48,7 +48,3 @@ IsWithin actor.Operator members = Unit {0}
 -- bodies that are given by their size are at most the longest one
 abbrev pub IsCourseRight : Course → Type 0
 IsCourseRight c = AllByRecursion IsRight c.directives
-
-pub record IsSound (s : State) : Type 0 where
-  pub directives : AllByRecursion IsCourseRight s.courses
-  pub eight : length s.failed ≡ 8

@@ -1,0 +1,14 @@
+pub mod Answering
+pub mod Asking
+pub mod Beginning
+pub mod Fitting
+pub mod Founded
+pub mod Hands
+pub mod Keeping
+pub mod Moving
+pub mod Owning
+pub mod Ready
+pub mod Roomy
+pub mod Staying
+pub mod Steps
+pub mod Waiting
