@@ -1,0 +1,10 @@
+pub mod Sums
+pub mod Looking
+pub mod Requests
+pub mod Pages
+pub mod Marks
+pub mod Ends
+pub mod Latch
+pub mod Works
+pub mod Places
+pub mod Steps
