@@ -1,0 +1,212 @@
+-- what was delivered is shown, and a structure at rest has no pending entry
+use Rattle.std.proofs.Common.{◌≡◌, ℕ, List, [], ◌∷◌, map, drop, Bool, true, false, cond, Option, Some, None, inl, inr, refl, sym, ap, subst, ◌∙◌, arith, true≢false}
+use Rattle.std.specs.Prelude.{◌==◌, option_map, Contains}
+use Rattle.std.specs.List.{AllByRecursion}
+use Rattle.std.specs.Option.{option_and_then}
+use Rattle.std.proofs.lemmas.Bool.{both_ways, ne_eqb}
+use Rattle.std.proofs.lemmas.Option.{none-some, same_Some}
+use Rattle.qsg_num.specs.declared.seats.Member.{Member}
+use Rattle.qsg_num.specs.declared.seats.StructNo.{StructNo}
+use Rattle.qsg_num.specs.declared.seats.TaskNo.{TaskNo}
+use Rattle.qsg_num.specs.declared.ids.EntryId.{EntryId}
+use Rattle.qsg_num.specs.declared.ids.UnitName.{UnitName}
+use Rattle.qsg_num.specs.Seats.{structure_number}
+use Rattle.qsg_msg.specs.declared.message.Message.{Message}
+use Rattle.qsg_model.specs.declared.history.Item.{Item}
+use Rattle.qsg_model.specs.declared.history.Item.TheVariants.{Unit as UnitOf}
+use Rattle.qsg_model.specs.declared.history.Op.{Op}
+use Rattle.qsg_model.specs.History.{key, has_key, puts, Legal}
+use Rattle.qsg_model.specs.Past.{held_at, is_put, is_got}
+use Rattle.qsg_model.proofs.Keyed.{message_at-key}
+use Rattle.qsg_model.proofs.Past.{got_is_unheld}
+use Rattle.qsg_lists.specs.declared.parts.Entry.{Entry}
+use Rattle.qsg_lists.specs.declared.parts.Mark.{Mark}
+use Rattle.qsg_lists.specs.declared.parts.Mark.TheVariants.{Visible, PutBy, GotBy, Cleanup}
+use Rattle.qsg_lists.specs.declared.parts.Place.{Place}
+use Rattle.qsg_lists.specs.declared.parts.Place.TheVariants.{Inline, Offloaded}
+use Rattle.qsg_lists.specs.Entries as lists
+use Rattle.qsg_lists.specs.Structures.{is_active}
+use Rattle.qsg_group.specs.declared.tasks.Claim.{Claim}
+use Rattle.qsg_group.specs.declared.tasks.Stage.{Stage}
+use Rattle.qsg_group.specs.declared.tasks.Stage.TheVariants.{Open, Hardening, Committed, BackedOut}
+use Rattle.qsg_group.specs.declared.tasks.Task.{Task}
+use Rattle.qsg_group.specs.Group.{Log}
+use Rattle.qsg_group.specs.Laws.{is_pending, PutsBy, GetsBy, Names, MarkNames, AreMatched}
+use Rattle.qsg_group.proofs.Purging.{unput_elsewhere, ungot_elsewhere}
+use Rattle.qsg_group.specs.Observers.{is_committed, counted_by, counted, entry_at, is_hardened, is_undecided, keys_claimed, IsElsewhere}
+use Rattle.qsg_manager.specs.Facilities.{structure_in}
+use Rattle.qsg_manager.specs.Storage.{task_at}
+use Rattle.qsg_manager.specs.Views.{body_of, is_outside, message_of, held_of}
+use Rattle.qsg_manager.proofs.Bridges.{found}
+use Rattle.qsg_step.specs.States.{State}
+use Rattle.qsg_sound.specs.Sound.{IsSound}
+use Rattle.qsg_answered.specs.Telling.{pending_of}
+use Rattle.qsg_answered.specs.Fits.{IsInside, commits_of, AreFitting}
+use Rattle.qsg_answered.specs.Fresh.{IsDelivered, is_shown, IsShown, AreShown, IsAtRest, IsQuiet, AreQuiet}
+use Rattle.qsg_answered.proofs.Deciding.{decides, unanswered}
+use Rattle.qsg_answered.proofs.Frames.{inside_in}
+use Rattle.qsg_answered.proofs.Histories.{once, put_or_got, left_claimed, unit_got, put_once}
+
+-- ---- a unit that is committed, and whose mark is left, isn't answered
+
+-- a committed unit whose mark is left has claimed the key
+claimed_by : (stage : Stage) (ops : List (StructNo × Op)) (claims : List Claim) (k : ℕ × ℕ) (m : Message) → is_hardened stage ≡ true → PutsBy stage ops claims k m → has_key (keys_claimed claims) k ≡ true
+claimed_by Open ops claims k m hardened due = absurd (true≢false (sym hardened))
+claimed_by (Hardening first) ops claims k m hardened due = absurd (true≢false (sym hardened))
+claimed_by (Committed first n) ops claims k m hardened due = left_claimed n k claims due
+claimed_by (BackedOut n) ops claims k m hardened due = absurd (true≢false (sym hardened))
+
+-- no incarnation failed, as the machine sees it
+none_failed : (s : State) (u : UnitName) (sound : IsSound s) → AreFitting s → sound.steady.rest.failed u.member u.incarnation.number ≡ true → ⊥
+none_failed s u sound fits failed = both_ways (sound.steady.rest.failed u.member u.incarnation.number) (sound.steady.mirrored.failed u.member u.incarnation.number ∙ fits.unfailed u.member u.incarnation.number) failed
+
+marked_live : (s : State) (t : TaskNo) (v : UnitName) (m : Message) (sound : IsSound s) (fits : AreFitting s) → is_committed sound.steady.rest.logs v ≡ true → IsDelivered m s.parts.history.items s.courses → (task_at v.member t s.parts.managers).unit ≡ Some v
+    → PutsBy (task_at v.member t s.parts.managers).stage (task_at v.member t s.parts.managers).ops (task_at v.member t s.parts.managers).claims (key m) m → ⊥
+marked_live s t v m sound fits committed given holds due =
+    let h = s.parts.history.items in
+    let task = task_at v.member t s.parts.managers in
+    let hardened = sym (sound.steady.laws.in_hand v t holds).in_log ∙ committed in
+    let deciding = decides s t v sound fits holds hardened in
+    let legal : Legal h = subst Legal sound.steady.mirrored.history sound.steady.laws.legal in
+    let ops = pending_of s.parts.objects v.member t s.courses in
+    let claimed = ap (λ ks. has_key ks (key m)) (sym deciding.settled.claims) ∙ claimed_by task.stage task.ops task.claims (key m) m hardened due in
+    elim (put_or_got (key m) ops claimed) [
+      | inl put ↦
+          let same = put_once (key m) h v given.unit ops given.ops legal.puts_differ deciding.settled.committed.there given.there put given.put in
+          unanswered s v.member t v sound fits deciding.commits (subst (λ (x : UnitName). Rattle.qsg_answered.specs.Fresh.IsAnswered x s.courses) (sym same) given.answered)
+      | inr got ↦ none-some m (sym (got_is_unheld (key m) h legal (unit_got (key m) h v ops deciding.settled.committed.there got)) ∙ given.held)
+    ]
+
+marked_put : (s : State) (v : UnitName) (m : Message) (sound : IsSound s) (fits : AreFitting s) → is_committed sound.steady.rest.logs v ≡ true → IsDelivered m s.parts.history.items s.courses
+    → MarkNames sound.steady.rest.failed (λ k w. task_at k w s.parts.managers) (key m) m (PutBy v) → ⊥
+marked_put s v m sound fits committed given names = elim names [
+  | inl failed ↦ none_failed s v sound fits failed
+  | inr live ↦ marked_live s live.0 v m sound fits committed given live.1 live.2
+]
+
+-- ---- an entry that counts
+
+cond_some : (b : Bool) (x m : Message) → cond b (Some x) None ≡ Some m → (b ≡ true) × (x ≡ m)
+cond_some true x m is = (refl, same_Some x m is)
+cond_some false x m is = absurd (none-some m is)
+
+cond_none : (b : Bool) (x m : Message) → cond b None (Some x) ≡ Some m → x ≡ m
+cond_none true x m is = absurd (none-some m is)
+cond_none false x m is = same_Some x m is
+
+-- an entry that counts has the message, and shows it unless a committed unit put it
+shown_by : (logs : Member → Log) (x m : Message) (mark : Mark) → counted_by logs x mark ≡ Some m → ((v : UnitName) → mark ≡ PutBy v → is_committed logs v ≡ true → x ≡ m → ⊥) → (x ≡ m) × (is_shown mark ≡ true)
+shown_by logs x m Visible is apart = (same_Some x m is, refl)
+shown_by logs x m (PutBy v) is apart = let both = cond_some (is_committed logs v) x m is in absurd (apart v refl both.0 both.1)
+shown_by logs x m (GotBy v) is apart = (cond_none (is_committed logs v) x m is, refl)
+shown_by logs x m Cleanup is apart = absurd (none-some m is)
+
+-- an entry of an inside body
+inline_is : (e : Entry) (place : Place) → e.place ≡ place → IsInside e → (body : List ℕ) × (e.place ≡ Inline body)
+inline_is e (Inline body) is inside = (body, is)
+inline_is e (Offloaded owner blocks long) is inside = absurd (true≢false (sym (ap is_outside is) ∙ inside))
+
+there_inside : (p : Entry → Bool) (es : List Entry) (e : Entry) → AllByRecursion IsInside es → Rattle.std.specs.Prelude.find p es ≡ Some e → IsInside e
+there_inside p [] e each is = absurd (none-some e is)
+there_inside p (x ∷ es) e each is = by (p x) is (there_inside p es e each.1)
+  where
+    by : (b : Bool) → cond b (Some x) (Rattle.std.specs.Prelude.find p es) ≡ Some e → (Rattle.std.specs.Prelude.find p es ≡ Some e → IsInside e) → IsInside e
+    by true is rest = subst IsInside (same_Some x e is) each.0
+    by false is rest = rest is
+
+-- the machine's entry of an id
+entry_is : (s : State) (sound : IsSound s) (x : StructNo) (id : EntryId) (o : Option Entry) → lists.entry_at id (structure_in x s.parts.structures).entries ≡ o
+    → entry_at id.number (map (held_of sound.steady.rest.outside x) (structure_in x s.parts.structures).entries) ≡ option_map (held_of sound.steady.rest.outside x) o
+entry_is s sound x id o is = found sound.steady.rest.outside x id (structure_in x s.parts.structures).entries ∙ ap (option_map (held_of sound.steady.rest.outside x)) is
+
+-- what counts under the id of a message that is held is that message
+counts_there : (s : State) (sound : IsSound s) (m : Message) (o : Option Entry) → is_active (structure_in m.structure s.parts.structures).state ≡ true → held_at (key m) s.parts.history.items ≡ Some m → lists.entry_at m.id (structure_in m.structure s.parts.structures).entries ≡ o
+    → option_and_then (counted sound.steady.rest.logs) (option_map (held_of sound.steady.rest.outside m.structure) o) ≡ Some m
+counts_there s sound m o active held is =
+    ap (option_and_then (counted sound.steady.rest.logs)) (sym (entry_is s sound m.structure m.id o is))
+    ∙ sound.steady.laws.good m.structure active m.id.number ∙ ap (held_at (key m)) sound.steady.mirrored.history ∙ held
+
+shows : (s : State) (sound : IsSound s) (m : Message) (e : Entry) → AreFitting s → is_active (structure_in m.structure s.parts.structures).state ≡ true → IsDelivered m s.parts.history.items s.courses
+    → lists.entry_at m.id (structure_in m.structure s.parts.structures).entries ≡ Some e → IsShown m (structure_in m.structure s.parts.structures)
+shows s sound m e fits active given is =
+    let structure = structure_in m.structure s.parts.structures in
+    let outside = sound.steady.rest.outside in
+    let msg = message_of m.structure e.id e.head (body_of outside e.place) in
+    let named = sound.steady.laws.marked m.structure m.id.number (held_of outside m.structure e) (entry_is s sound m.structure m.id (Some e) is) in
+    let both = shown_by sound.steady.rest.logs msg m e.mark (counts_there s sound m (Some e) active given.held is)
+    (λ v mark committed same.
+    marked_put s v m sound fits committed given
+    (subst (λ (y : Message). MarkNames sound.steady.rest.failed (λ k w. task_at k w s.parts.managers) (key m) y (PutBy v)) same
+    (subst (λ (y : Mark). MarkNames sound.steady.rest.failed (λ k w. task_at k w s.parts.managers) (key m) msg y) mark named))) in
+    let inline = inline_is e e.place refl (there_inside (lists.has_id m.id) structure.entries e (inside_in m.structure s.parts.structures fits.inside) is) in
+    let same : message_of m.structure e.id e.head inline.0 ≡ m = ap (λ (y : Place). message_of m.structure e.id e.head (body_of outside y)) (sym inline.1) ∙ both.0 in
+    let body : inline.0 ≡ m.body = ap (λ (y : Message). y.body) same in
+    record {
+      entry = e;
+      there = is;
+      says = ap (message_of m.structure e.id e.head) (sym body) ∙ same;
+      body = inline.1 ∙ ap Inline body;
+      shown = both.1;
+    }
+
+pub delivered_shown : (s : State) → IsSound s → AreFitting s → AreShown s
+delivered_shown s sound fits m active given = by (lists.entry_at m.id (structure_in m.structure s.parts.structures).entries) refl
+  where
+    by : (o : Option Entry) → lists.entry_at m.id (structure_in m.structure s.parts.structures).entries ≡ o → IsShown m (structure_in m.structure s.parts.structures)
+    by None is = absurd (none-some m (counts_there s sound m None active given.held is))
+    by (Some e) is = shows s sound m e fits active given is
+
+-- ---- a structure at rest
+
+elsewhere_lacks : (x : StructNo) (id : ℕ) (claims : List Claim) → AllByRecursion (IsElsewhere x) claims → has_key (keys_claimed claims) (structure_number x, id) ≡ false
+elsewhere_lacks x id [] all = refl
+elsewhere_lacks x id (c ∷ claims) all =
+    let apart : (structure_number x == structure_number c.connection.structure) ≡ false = ne_eqb (structure_number x) (structure_number c.connection.structure) (λ e. all.0 (sym e)) in
+    let rest = elsewhere_lacks x id claims all.1 in
+    grind (arith, apart, rest)
+
+unclaimed : (x : StructNo) (id n : ℕ) (claims : List Claim) → AllByRecursion (IsElsewhere x) claims → has_key (keys_claimed (drop n claims)) (structure_number x, id) ≡ true → ⊥
+unclaimed x id n claims all has = both_ways (has_key (keys_claimed claims) (structure_number x, id)) (elsewhere_lacks x id claims all) (left_claimed n (structure_number x, id) claims has)
+
+-- a unit without work on the structure put nothing there, and got nothing
+puts_none : (h : List Item) (x : StructNo) (id : ℕ) (m : Message) (stage : Stage) (ops : List (StructNo × Op)) (claims : List Claim) → (is_undecided stage ≡ true → AreMatched h ops claims) → AllByRecursion (IsElsewhere x) claims → PutsBy stage ops claims (structure_number x, id) m → ⊥
+puts_none h x id m Open ops claims matched all due = both_ways (is_put (structure_number x, id) ops) (unput_elsewhere h x id ops claims (matched refl) all) (message_at-key (structure_number x, id) (puts ops) m due).1
+puts_none h x id m (Hardening first) ops claims matched all due = both_ways (is_put (structure_number x, id) ops) (unput_elsewhere h x id ops claims (matched refl) all) (message_at-key (structure_number x, id) (puts ops) m due).1
+puts_none h x id m (Committed first n) ops claims matched all due = unclaimed x id n claims all due
+puts_none h x id m (BackedOut n) ops claims matched all due = unclaimed x id n claims all due
+
+gets_none : (h : List Item) (x : StructNo) (id : ℕ) (stage : Stage) (ops : List (StructNo × Op)) (claims : List Claim) → (is_undecided stage ≡ true → AreMatched h ops claims) → AllByRecursion (IsElsewhere x) claims → GetsBy stage ops claims (structure_number x, id) → ⊥
+gets_none h x id Open ops claims matched all due = both_ways (is_got (structure_number x, id) ops) (ungot_elsewhere h x id ops claims (matched refl) all) due
+gets_none h x id (Hardening first) ops claims matched all due = both_ways (is_got (structure_number x, id) ops) (ungot_elsewhere h x id ops claims (matched refl) all) due
+gets_none h x id (Committed first n) ops claims matched all due = unclaimed x id n claims all due
+gets_none h x id (BackedOut n) ops claims matched all due = unclaimed x id n claims all due
+
+none_named : (s : State) (v : UnitName) (Due : Task → Type 0) (sound : IsSound s) → AreFitting s → ((t : TaskNo) → (task_at v.member t s.parts.managers).unit ≡ Some v → Due (task_at v.member t s.parts.managers) → ⊥)
+    → Names sound.steady.rest.failed (λ k w. task_at k w s.parts.managers) v Due → ⊥
+none_named s v Due sound fits none names = elim names [
+  | inl failed ↦ none_failed s v sound fits failed
+  | inr live ↦ none live.0 live.1 live.2
+]
+
+quiet_by : (s : State) (x : StructNo) (id : ℕ) (m : Message) (mark : Mark) (sound : IsSound s) → AreFitting s → IsAtRest x s → MarkNames sound.steady.rest.failed (λ k w. task_at k w s.parts.managers) (structure_number x, id) m mark → is_pending mark ≡ false
+quiet_by s x id m Visible sound fits rest named = refl
+quiet_by s x id m (PutBy v) sound fits rest named = absurd (none_named s v (λ task. PutsBy task.stage task.ops task.claims (structure_number x, id) m) sound fits
+    (λ t has due.
+    let task = task_at v.member t s.parts.managers in
+    puts_none sound.steady.rest.history x id m task.stage task.ops task.claims (λ open_yet. (sound.steady.laws.ready v t has open_yet).matched) (rest v.member t) due) named)
+quiet_by s x id m (GotBy v) sound fits rest named = absurd (none_named s v (λ task. GetsBy task.stage task.ops task.claims (structure_number x, id)) sound fits
+    (λ t has due.
+    let task = task_at v.member t s.parts.managers in
+    gets_none sound.steady.rest.history x id task.stage task.ops task.claims (λ open_yet. (sound.steady.laws.ready v t has open_yet).matched) (rest v.member t) due) named)
+quiet_by s x id m Cleanup sound fits rest named = refl
+
+pub quiet_at_rest : (s : State) → IsSound s → AreFitting s → AreQuiet s
+quiet_at_rest s sound fits x rest id e is =
+    let outside = sound.steady.rest.outside in
+    quiet_by s x id.number (held_of outside x e).message e.mark sound fits rest (sound.steady.laws.marked x id.number (held_of outside x e) (entry_is s sound x id (Some e) is))
+
+-- ---- a unit of the history
+
+-- it belongs to exactly one COMMIT
+pub one_commit : (s : State) (u : UnitName) (ops : List (StructNo × Op)) → IsSound s → AreFitting s → Contains s.parts.history.items (UnitOf u ops) → commits_of u s.courses s.works ≡ 1
+one_commit s u ops sound fits there = fits.once u ∙ once s.parts.history.items u ops (subst Legal sound.steady.mirrored.history sound.steady.laws.legal) there

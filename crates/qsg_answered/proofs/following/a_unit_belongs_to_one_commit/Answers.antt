@@ -1,0 +1,5 @@
+use Rattle.qsg_answered.proofs.Showing.{one_commit}
+use Rattle.qsg_answered.proofs.following.a_unit_belongs_to_one_commit.Goals as goal
+
+pub returns : goal.returns
+returns c = one_commit
