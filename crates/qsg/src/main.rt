@@ -1,6 +1,7 @@
 //! The program: replays a script of queue commands from standard input, and prints the report.
 #![tactic(auto)]
 
+use qsg_disk_mem::MemRig;
 use qsg_io::{StdSink, StdSource};
 use qsg_run::{no_memory, replay};
 use std::alloc::AllocError;
@@ -20,11 +21,17 @@ fn words(rt: &(impl Env + AllocGlobal)) -> Result<Vec<String>, AllocError> {
     Ok(words)
 }
 
+/// The words after the program's name, and a rig that makes devices in memory, no call of which fails.
+fn outside(rt: &(impl Env + AllocGlobal)) -> Result<(Vec<String>, MemRig), AllocError> {
+    let rig = MemRig::new(rt.alloc(), Vec::new(rt.alloc()), Vec::new(rt.alloc()))?;
+    Ok((words(rt)?, rig))
+}
+
 fn main(rt: HostRuntime) -> ExitCode {
     let mut source = StdSource::new(rt.reader());
     let mut sink = StdSink::new(io::writer(&rt));
-    let status = match words(&rt) {
-        Ok(words) => replay(rt.alloc(), &words, &mut source, &mut sink),
+    let status = match outside(&rt) {
+        Ok((words, mut rig)) => replay(rt.alloc(), &words, &mut source, &mut sink, &mut rig),
         Err(_) => no_memory(&mut sink),
     };
     ExitCode::from(status.code())

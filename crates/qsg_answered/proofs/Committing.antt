@@ -1,6 +1,6 @@
 -- each step of a COMMIT up to where its unit is in the history
 use Rattle.std.proofs.Common.{◌≡◌, ℕ, ◌+◌, ◌<◌, List, [], ◌∷◌, ◌++◌, length, map, Bool, true, false, cond, Option, Some, None, inl, inr, refl, sym, ap, subst, ◌∙◌, arith, true≢false}
-use Rattle.std.specs.Prelude.{nat_lt, option_map, count_by}
+use Rattle.std.specs.Prelude.{nat_lt, option_map, count_by, Contains}
 use Rattle.std.proofs.lemmas.Bool.Decides.{nat_tests}
 use Rattle.std.proofs.lemmas.List.Elements.{Contains-append_right}
 use Rattle.std.proofs.lemmas.List.Sums.{sum_by-append, sum_by-cons}
@@ -42,7 +42,7 @@ use Rattle.qsg_commit.specs.Works.{Work}
 use Rattle.qsg_works.specs.declared.work.Work.TheVariants as work
 use Rattle.qsg_fit.specs.Outcomes.{IsHardening}
 use Rattle.qsg_fit.proofs.Opened.{task_stored}
-use Rattle.qsg_answered.specs.Fits.{IsCounted}
+use Rattle.qsg_answered.specs.Fits.{IsCountOf}
 use Rattle.qsg_answered.proofs.Frames.{frame_stored, frame_same}
 use Rattle.qsg_answered.proofs.Outcomes.{still, one_if, named_in, Moves}
 
@@ -72,10 +72,10 @@ nothing_pending a b m t p s is = by (nat_lt 0 (length (task_at m t p.managers).o
     by true None some holds is = ap (λ (z : Task). z.ops) (s.named m t holds)
     by true (Some u) some holds is = absurd (none-some (u, length (task_at m t p.managers).ops) (sym is))
 
-pub some_pending : (task : Task) (u : UnitName) (n : ℕ) → pending task ≡ Some (u, n) → IsCounted task.ops n
+pub some_pending : (task : Task) (u : UnitName) (n : ℕ) → pending task ≡ Some (u, n) → IsCountOf task.ops n
 some_pending task u n is = by (nat_lt 0 (length task.ops)) task.unit refl is
   where
-    by : (c : Bool) (unit : Option UnitName) → nat_lt 0 (length task.ops) ≡ c → cond c (option_map {U = UnitName × ℕ} (λ (v : UnitName). (v, length task.ops)) unit) None ≡ Some (u, n) → IsCounted task.ops n
+    by : (c : Bool) (unit : Option UnitName) → nat_lt 0 (length task.ops) ≡ c → cond c (option_map {U = UnitName × ℕ} (λ (v : UnitName). (v, length task.ops)) unit) None ≡ Some (u, n) → IsCountOf task.ops n
     by false unit some is = absurd (none-some (u, n) is)
     by true None some is = absurd (none-some (u, n) is)
     by true (Some v) some is =
@@ -131,7 +131,7 @@ latched_moves a b m t ops p q u count s has held is latch =
     subst (λ x. EndMoves m t ops Latch p More (Pages u count) x) (sym latch.parts) (record {
       move = record { objects = refl; lives = refl; frame = frame_stored m t y p.managers has.manager five (λ v holds. holds); inside = λ each. each };
       history = inl refl;
-      holds = (ap (λ (z : Task). z.ops) (task_stored m t y p.managers has.manager five) ∙ held, subst (λ l. IsCounted l count) held (some_pending task u count is));
+      holds = (ap (λ (z : Task). z.ops) (task_stored m t y p.managers has.manager five) ∙ held, subst (λ l. IsCountOf l count) held (some_pending task u count is));
       counts = λ v. refl;
     })
 
@@ -176,7 +176,7 @@ claims_match a b t u p s hard =
     subst (λ h. AreMatched h (task_at u.member t p.managers).ops (task_at u.member t p.managers).claims) s.mirrored.history
     (s.laws.ready u t (ap (λ (z : Task). z.unit) hard.is) (ap (λ (z : Task). is_undecided z.stage) hard.is)).matched
 
-page_by : (a b : ℕ) (t : TaskNo) (ops : List (StructNo × Op)) (p q : Owned) (u : UnitName) (count : ℕ) (done : Bool) → IsSteady a b p → HasMember u.member p → IsHardening u (task_at u.member t p.managers) → (task_at u.member t p.managers).ops ≡ ops → IsCounted ops count
+page_by : (a b : ℕ) (t : TaskNo) (ops : List (StructNo × Op)) (p q : Owned) (u : UnitName) (count : ℕ) (done : Bool) → IsSteady a b p → HasMember u.member p → IsHardening u (task_at u.member t p.managers) → (task_at u.member t p.managers).ops ≡ ops → IsCountOf ops count
     → IsPageStep u t done p q → EndMoves u.member t ops (Pages u count) p More (after_page done u count) q
 page_by a b t ops p q u count false s has hard held counted step =
     subst (λ x. EndMoves u.member t ops (Pages u count) p More (Pages u count) x) (sym step.made) (record {
@@ -196,7 +196,7 @@ page_by a b t ops p q u count true s has hard held counted step =
       history = inr (record { unit = u; ops = task.ops; holds = unit; new = not_yet a b t u p s hard; items = refl });
       holds = record {
         committed = record {
-          there = subst (λ l. Rattle.std.specs.Prelude.Contains (p.history.items ++ UnitOf u l ∷ []) (UnitOf u ops)) (sym held) (Contains-append_right p.history.items (UnitOf u ops ∷ []) (UnitOf u ops) (at_head (UnitOf u ops) []));
+          there = subst (λ l. Contains (p.history.items ++ UnitOf u l ∷ []) (UnitOf u ops)) (sym held) (Contains-append_right p.history.items (UnitOf u ops ∷ []) (UnitOf u ops) (at_head (UnitOf u ops) []));
           counted = counted;
         };
         claims = ap (λ (z : Task). keys_claimed z.claims) (task_stored m t y p.managers has.manager five) ∙ keys_matched p.history.items task.ops task.claims (claims_match a b t u p s hard) ∙ ap (map key_of_op) held;
@@ -205,7 +205,7 @@ page_by a b t ops p q u count true s has hard held counted step =
     })
 
 pub page_moves : (a b : ℕ) (m : Member) (t : TaskNo) (ops : List (StructNo × Op)) (p q : Owned) (u : UnitName) (count : ℕ) (turn : Turn) (phase : Phase) → IsSteady a b p → HasMember m p → u.member ≡ m → IsHardening u (task_at m t p.managers)
-    → (task_at m t p.managers).ops ≡ ops → IsCounted ops count → PageStep t u count p turn phase q → EndMoves m t ops (Pages u count) p turn phase q
+    → (task_at m t p.managers).ops ≡ ops → IsCountOf ops count → PageStep t u count p turn phase q → EndMoves m t ops (Pages u count) p turn phase q
 page_moves a b m t ops p q u count turn phase s has own hard held counted step =
     end_moved m t ops (Pages u count) p turn More phase (after_page step.0 u count) q q step.1 step.2 refl
     (subst (λ (k : Member). HasMember k p → IsHardening u (task_at k t p.managers) → (task_at k t p.managers).ops ≡ ops → EndMoves k t ops (Pages u count) p More (after_page step.0 u count) q) own

@@ -1,22 +1,19 @@
 -- the courses of actors, once one of them has answered
 use Rattle.std.proofs.Common.{◌≡◌, ℕ, ◌+◌, Bool, true, false, cond, List, [], ◌∷◌, Option, Some, None, refl, sym, ap, subst, ◌∙◌, arith, true≢false}
-use Rattle.std.specs.Prelude.{◌==◌, ◌&&◌, sum_by}
+use Rattle.std.specs.Prelude.{sum_by}
 use Rattle.std.specs.List.{AllByRecursion}
 use Rattle.std.specs.Option.{option_and_then}
 use Rattle.std.proofs.lemmas.Bool.{false≢true}
 use Rattle.std.proofs.lemmas.Bool.Decides.{nat_tests}
 use Rattle.std.proofs.lemmas.List.Sums.{sum_by-cons}
 use Rattle.std.proofs.lemmas.Option.{none-some, same_Some}
-use Rattle.qsg_num.specs.declared.seats.Member.{Member}
-use Rattle.qsg_num.specs.declared.seats.TaskNo.{TaskNo}
 use Rattle.qsg_num.specs.declared.ids.Actor.{Actor}
 use Rattle.qsg_num.specs.declared.ids.Actor.TheVariants as actor
-use Rattle.qsg_num.specs.Seats.{member_number, task_number}
 use Rattle.qsg_objects.specs.declared.directives.Directive.{Directive}
 use Rattle.qsg_requests.specs.declared.transcript.Answer.{Answer}
 use Rattle.qsg_agenda.specs.Courses.{Course, same_actor, course_of, next_in, next_of, with_answer, answered}
 use Rattle.qsg_group.proofs.Tables.{same_member, same_task}
-use Rattle.qsg_steady.specs.Standing.{IsOther}
+use Rattle.qsg_sound.proofs.Answering.{AreApart}
 
 -- ---- actors
 
@@ -28,21 +25,6 @@ actor_is (actor.Task m t) (actor.Task n u) is =
 actor_is (actor.Task m t) actor.Operator is = absurd (false≢true is)
 actor_is actor.Operator (actor.Task n u) is = absurd (false≢true is)
 actor_is actor.Operator actor.Operator is = refl
-
--- no actor is both of them
-abbrev pub AreApart : Actor → Actor → Type 0
-AreApart who other = (c : Actor) → same_actor c who ≡ true → same_actor c other ≡ false
-
-numbers_apart : (n u m t k w : ℕ) → (k ≡ m → w ≡ t → ⊥) → ((n == m) && (u == t)) ≡ true → ((n == k) && (u == w)) ≡ false
-numbers_apart n u m t k w differ is = grind (arith, nat_tests)
-
-pub tasks_apart : (m : Member) (t : TaskNo) (k : Member) (w : TaskNo) → IsOther m t k w → AreApart (actor.Task m t) (actor.Task k w)
-tasks_apart m t k w differ (actor.Task n u) is = numbers_apart (member_number n) (task_number u) (member_number m) (task_number t) (member_number k) (task_number w) differ is
-tasks_apart m t k w differ actor.Operator is = absurd (false≢true is)
-
-pub operator_apart : (k : Member) (w : TaskNo) → AreApart actor.Operator (actor.Task k w)
-operator_apart k w (actor.Task n u) is = absurd (false≢true is)
-operator_apart k w actor.Operator is = refl
 
 -- ---- the course of an actor
 

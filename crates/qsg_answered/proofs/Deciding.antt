@@ -1,5 +1,5 @@
 -- a unit that is committed and not ended belongs to a COMMIT in hand
-use Rattle.std.proofs.Common.{◌≡◌, ℕ, ◌-◌, ◌≤◌, List, length, true, Option, Some, None, sym, ap, subst, ◌∙◌, arith, true≢false}
+use Rattle.std.proofs.Common.{◌≡◌, ℕ, ◌<◌, zero, suc, get_or, [], ◌∷◌, ◌-◌, ◌≤◌, List, length, true, Option, Some, None, sym, ap, subst, ◌∙◌, arith, true≢false}
 use Rattle.std.specs.Prelude.{◌==◌}
 use Rattle.std.proofs.lemmas.Bool.{and_parts, both_ways}
 use Rattle.std.proofs.lemmas.Option.{same_Some}
@@ -19,7 +19,8 @@ use Rattle.qsg_group.specs.declared.tasks.Stage.{Stage}
 use Rattle.qsg_group.specs.declared.tasks.Stage.TheVariants.{Open, Hardening, Committed, BackedOut}
 use Rattle.qsg_group.specs.declared.tasks.Task.{Task}
 use Rattle.qsg_group.specs.Observers.{is_hardened}
-use Rattle.qsg_manager.specs.Storage.{manager_in, task_at}
+use Rattle.qsg_manager.specs.declared.managers.Manager.{Manager}
+use Rattle.qsg_manager.specs.Storage.{no_manager, manager_in, task_at}
 use Rattle.qsg_logs.specs.Held.{is_open}
 use Rattle.qsg_put.specs.declared.phases.Phase.{Phase as PutPhase}
 use Rattle.qsg_put.specs.declared.phases.Phase.TheVariants as put_phase
@@ -38,12 +39,11 @@ use Rattle.qsg_step.specs.States.{State}
 use Rattle.qsg_sound.specs.Sound.{IsHand, IsSound}
 use Rattle.qsg_answered.specs.Telling.{pending_of}
 use Rattle.qsg_answered.specs.Fits.{IsSettled, HoldsEnd, Holds, has_committed, commits_now, AreFitting}
-use Rattle.qsg_answered.specs.Fresh.{IsAnswered}
-use Rattle.qsg_answered.proofs.Asking.{past}
+use Rattle.qsg_answered.specs.Fresh.{IsNamed}
 use Rattle.qsg_answered.proofs.Hands.{counted_with}
 use Rattle.qsg_answered.proofs.Histories.{once_most}
 use Rattle.qsg_answered.proofs.Outcomes.{one_if}
-use Rattle.qsg_answered.proofs.Owning.{at_work}
+use Rattle.qsg_sound.proofs.Owning.{at_work}
 
 -- ---- stages
 
@@ -103,6 +103,12 @@ hand_decides s m t v ops (Some (Commit w)) within holds hardened named hand held
     (at_work (λ k x. is_hardened (task_at k x s.parts.managers).stage ≡ true) (Commit w) m t hand.own hardened) named hand.fits.stands held in
     record { commits = found.0; count = found.1.0; settled = found.1.1 }
 
+-- a member that is up is one of the group's
+past : (ms : List Manager) (i : ℕ) → (get_or ms i no_manager).up ≡ true → i < length ms
+past [] i up = absurd (true≢false (sym up))
+past (x ∷ ms) zero up = omega arith
+past (x ∷ ms) (suc i) up = let h = past ms i up in omega (arith, h)
+
 -- a member whose task holds a unit is one of the group's
 holder_within : (s : State) (t : TaskNo) (v : UnitName) → IsSound s → (task_at v.member t s.parts.managers).unit ≡ Some v → member_number v.member ≤ length s.parts.managers
 holder_within s t v sound holds =
@@ -120,7 +126,7 @@ decides s t v sound fits holds hardened =
 -- ---- counted once
 
 -- the COMMIT of a unit that is in hand wasn't answered
-pub unanswered : (s : State) (m : Member) (t : TaskNo) (v : UnitName) → IsSound s → AreFitting s → commits_now v (work_of m t s.works) ≡ true → IsAnswered v s.courses → ⊥
+pub unanswered : (s : State) (m : Member) (t : TaskNo) (v : UnitName) → IsSound s → AreFitting s → commits_now v (work_of m t s.works) ≡ true → IsNamed v s.courses → ⊥
 unanswered s m t v sound fits now answered =
     let legal = sound.steady.laws.legal in
     let most = once_most v (names s.parts.history.items) (subst (λ h. AllDiffer (names h)) sound.steady.mirrored.history legal.names_differ) in

@@ -43,7 +43,7 @@ use Rattle.qsg_commit.specs.Next.{Next, unit_ended, after_settle, after_publish,
 use Rattle.qsg_commit.specs.Pending.{pending}
 use Rattle.qsg_fit.proofs.Opened.{opened, task_stored}
 use Rattle.qsg_fit.proofs.Settling.{pending_unit}
-use Rattle.qsg_answered.specs.Fits.{IsCounted, IsCommitted, IsSettled, IsLeftOut}
+use Rattle.qsg_answered.specs.Fits.{IsCountOf, IsCommitted, IsSettled, IsLeftOut}
 use Rattle.qsg_answered.proofs.Committing.{EndMoves, nothing_pending, some_pending}
 use Rattle.qsg_answered.proofs.Frames.{IsFrame, frame_stored, frame_more, inside_in, inside_with, inside_settled}
 use Rattle.qsg_answered.proofs.Outcomes.{IsMove, still, one_if, named_in}
@@ -181,7 +181,7 @@ left_out_by a b t u p q s holds out frame history free =
     }
 
 -- a step of BACKOUT takes a mark off, of parts r in which the unit is given up
-undo_by : (a b : ℕ) (t : TaskNo) (ops : List (StructNo × Op)) (u : UnitName) (count : ℕ) (before at : Phase) (p r : Owned) (z : Bool) → IsSteady a b p → (task_at u.member t p.managers).unit ≡ Some u → is_unit u p.history.items ≡ false → IsCounted ops count
+undo_by : (a b : ℕ) (t : TaskNo) (ops : List (StructNo × Op)) (u : UnitName) (count : ℕ) (before at : Phase) (p r : Owned) (z : Bool) → IsSteady a b p → (task_at u.member t p.managers).unit ≡ Some u → is_unit u p.history.items ≡ false → IsCountOf ops count
     → IsOff u.member t p r → ((q : Owned) (move : IsMove u.member t p q) → q.history ≡ p.history → task_at u.member t q.managers ≡ idle → EndMoves u.member t ops before p (unit_ended u count) at q)
     → ((q : Owned) (move : IsMove u.member t p q) → q.history ≡ p.history → EndMoves u.member t ops before p More (Undo u count) q)
     → EndMoves u.member t ops before p (cond z (unit_ended u count) More) (cond z at (Undo u count)) (cond z (ended u t r) r)
@@ -189,7 +189,7 @@ undo_by a b t ops u count before at p r true s holds out counted off finish go =
     finish (ended u t r) (move_more u.member t p r (ended u t r) off.move (end_there t u r off.there)) off.history (end_idle t u r off.there)
 undo_by a b t ops u count before at p r false s holds out counted off finish go = go r off.move off.history
 
-gave_up : (a b : ℕ) (t : TaskNo) (ops : List (StructNo × Op)) (u : UnitName) (count : ℕ) (p q : Owned) → IsSteady a b p → (task_at u.member t p.managers).unit ≡ Some u → is_unit u p.history.items ≡ false → IsCounted ops count
+gave_up : (a b : ℕ) (t : TaskNo) (ops : List (StructNo × Op)) (u : UnitName) (count : ℕ) (p q : Owned) → IsSteady a b p → (task_at u.member t p.managers).unit ≡ Some u → is_unit u p.history.items ≡ false → IsCountOf ops count
     → IsMove u.member t p q → q.history ≡ p.history → task_at u.member t q.managers ≡ idle → EndMoves u.member t ops GiveUp p (unit_ended u count) GiveUp q
 gave_up a b t ops u count p q s holds out counted move history free = record {
   move = move;
@@ -200,7 +200,7 @@ gave_up a b t ops u count p q s holds out counted move history free = record {
   counts = λ v. refl;
 }
 
-undid : (a b : ℕ) (t : TaskNo) (ops : List (StructNo × Op)) (u : UnitName) (count : ℕ) (p q : Owned) → IsSteady a b p → (task_at u.member t p.managers).unit ≡ Some u → is_unit u p.history.items ≡ false → IsCounted ops count
+undid : (a b : ℕ) (t : TaskNo) (ops : List (StructNo × Op)) (u : UnitName) (count : ℕ) (p q : Owned) → IsSteady a b p → (task_at u.member t p.managers).unit ≡ Some u → is_unit u p.history.items ≡ false → IsCountOf ops count
     → IsMove u.member t p q → q.history ≡ p.history → task_at u.member t q.managers ≡ idle → EndMoves u.member t ops (Undo u count) p (unit_ended u count) (Undo u count) q
 undid a b t ops u count p q s holds out counted move history free = record {
   move = move;
@@ -211,7 +211,7 @@ undid a b t ops u count p q s holds out counted move history free = record {
   counts = λ v. refl;
 }
 
-gives_up : (t : TaskNo) (ops : List (StructNo × Op)) (u : UnitName) (count : ℕ) (p q : Owned) → is_unit u p.history.items ≡ false → IsCounted ops count → IsMove u.member t p q → q.history ≡ p.history
+gives_up : (t : TaskNo) (ops : List (StructNo × Op)) (u : UnitName) (count : ℕ) (p q : Owned) → is_unit u p.history.items ≡ false → IsCountOf ops count → IsMove u.member t p q → q.history ≡ p.history
     → EndMoves u.member t ops GiveUp p More (Undo u count) q
 gives_up t ops u count p q out counted move history = record {
   move = move;
@@ -220,7 +220,7 @@ gives_up t ops u count p q out counted move history = record {
   counts = λ v. ap (λ h. one_if false + named_in v h.items) (sym history);
 }
 
-undoes : (t : TaskNo) (ops : List (StructNo × Op)) (u : UnitName) (count : ℕ) (p q : Owned) → is_unit u p.history.items ≡ false → IsCounted ops count → IsMove u.member t p q → q.history ≡ p.history
+undoes : (t : TaskNo) (ops : List (StructNo × Op)) (u : UnitName) (count : ℕ) (p q : Owned) → is_unit u p.history.items ≡ false → IsCountOf ops count → IsMove u.member t p q → q.history ≡ p.history
     → EndMoves u.member t ops (Undo u count) p More (Undo u count) q
 undoes t ops u count p q out counted move history = record {
   move = move;
@@ -248,7 +248,7 @@ publish_moves a b m t ops p u count s has own is =
     subst (λ (k : Member). HasMember k p → EndMoves k t ops (Publish u count) p (after_publish t u count p).turn (after_publish t u count p).phase (after_publish t u count p).parts) own
     (λ here. publish_there t ops u count p (there_of a b u.member p s here) is) has
 
-pub undo_moves : (a b : ℕ) (m : Member) (t : TaskNo) (ops : List (StructNo × Op)) (p : Owned) (u : UnitName) (count : ℕ) → IsSteady a b p → HasMember m p → u.member ≡ m → (task_at m t p.managers).unit ≡ Some u → is_unit u p.history.items ≡ false → IsCounted ops count
+pub undo_moves : (a b : ℕ) (m : Member) (t : TaskNo) (ops : List (StructNo × Op)) (p : Owned) (u : UnitName) (count : ℕ) → IsSteady a b p → HasMember m p → u.member ≡ m → (task_at m t p.managers).unit ≡ Some u → is_unit u p.history.items ≡ false → IsCountOf ops count
     → EndMoves m t ops (Undo u count) p (after_undo t u count (Undo u count) p).turn (after_undo t u count (Undo u count) p).phase (after_undo t u count (Undo u count) p).parts
 undo_moves a b m t ops p u count s has own holds out counted =
     subst (λ (k : Member). HasMember k p → (task_at k t p.managers).unit ≡ Some u → EndMoves k t ops (Undo u count) p (after_undo t u count (Undo u count) p).turn (after_undo t u count (Undo u count) p).phase (after_undo t u count (Undo u count) p).parts) own
@@ -276,7 +276,7 @@ open_is_out a b t u p s holds ready =
     ap (is_unit u) (sym s.mirrored.history) ∙ (s.laws.in_hand u t holds).in_history ∙ ap (λ (z : Task). is_hardened z.stage) (opened (task_at u.member t p.managers) u holds ready)
 
 give_up_there : (a b : ℕ) (t : TaskNo) (ops : List (StructNo × Op)) (p : Owned) (u : UnitName) (count : ℕ) → IsSteady a b p → HasMember u.member p → (task_at u.member t p.managers).unit ≡ Some u → is_open (task_at u.member t p.managers).stage ≡ true
-    → IsCounted ops count → EndMoves u.member t ops GiveUp p (after_give_up t (Some (u, count)) p).turn (after_give_up t (Some (u, count)) p).phase (after_give_up t (Some (u, count)) p).parts
+    → IsCountOf ops count → EndMoves u.member t ops GiveUp p (after_give_up t (Some (u, count)) p).turn (after_give_up t (Some (u, count)) p).phase (after_give_up t (Some (u, count)) p).parts
 give_up_there a b t ops p u count s has holds ready counted =
     let out = open_is_out a b t u p s holds ready in
     let r = settled u t (given_up u t p) in
@@ -290,7 +290,7 @@ give_up_by a b m t ops p None s has ready held is =
     record { move = still m t p; history = refl; holds = none; ends = record { pending = sym held ∙ none; none = refl }; out = tt; counts = λ u. refl }
 give_up_by a b m t ops p (Some (u, count)) s has ready held is =
     let holds = pending_unit (task_at m t p.managers) u count is in
-    let counted = subst (λ l. IsCounted l count) held (some_pending (task_at m t p.managers) u count is) in
+    let counted = subst (λ l. IsCountOf l count) held (some_pending (task_at m t p.managers) u count is) in
     subst (λ (k : Member). HasMember k p → (task_at k t p.managers).unit ≡ Some u → is_open (task_at k t p.managers).stage ≡ true
     → EndMoves k t ops GiveUp p (after_give_up t (Some (u, count)) p).turn (after_give_up t (Some (u, count)) p).phase (after_give_up t (Some (u, count)) p).parts) (s.own m t u holds)
     (λ h o r. give_up_there a b t ops p u count s h o r counted) has holds ready

@@ -1,6 +1,6 @@
 -- in a new group all answers fit
-use Rattle.std.proofs.Common.{◌≡◌, ℕ, zero, suc, ◌+◌, ◌-◌, List, [], ◌∷◌, length, get_or, Option, Some, None, refl, sym, ap, subst, ◌∙◌, arith}
-use Rattle.std.specs.Prelude.{replicate, count_by, sum_by, fold}
+use Rattle.std.proofs.Common.{◌≡◌, ℕ, zero, suc, ◌-◌, List, [], ◌∷◌, get_or, Option, Some, None, refl, sym, ap, subst, ◌∙◌, arith, Bool, true, false, cond}
+use Rattle.std.specs.Prelude.{replicate, count_by, sum_by, fold, find}
 use Rattle.std.specs.List.{zip, AllByRecursion}
 use Rattle.std.proofs.lemmas.List.Sums.{sum_by-cons}
 use Rattle.qsg_num.specs.declared.seats.Member.{Member}
@@ -14,7 +14,7 @@ use Rattle.qsg_model.specs.declared.history.Item.{Item}
 use Rattle.qsg_model.specs.History.{names}
 use Rattle.qsg_lists.specs.Structures.{ListStructure}
 use Rattle.qsg_objects.specs.Registry.{Registry}
-use Rattle.qsg_agenda.specs.Courses.{Course, course_of}
+use Rattle.qsg_agenda.specs.Courses.{Course, same_actor}
 use Rattle.qsg_manager.specs.declared.managers.Manager.{Manager}
 use Rattle.qsg_manager.specs.Storage.{task_in, no_manager, task_at}
 use Rattle.qsg_parts.specs.Owned.{Owned}
@@ -42,13 +42,13 @@ out_none p c none = subst (AllByRecursion (StaysOutTold p c.actor)) (sym (nothin
 nothing_pending : (objects : Registry) (c : Course) → IsUnanswered c → pending objects c ≡ []
 nothing_pending objects c none = ap (fold (with_answered objects c.actor) []) (nothing_told c none)
 
-all_found : (P : Course → Type 0) (p : Course → Rattle.std.specs.Prelude.Bool) (cs : List Course) → AllByRecursion P cs → (objects : Registry) → ((c : Course) → P c → pending objects c ≡ []) → pending_in objects (Rattle.std.specs.Prelude.find p cs) ≡ []
+all_found : (P : Course → Type 0) (p : Course → Bool) (cs : List Course) → AllByRecursion P cs → (objects : Registry) → ((c : Course) → P c → pending objects c ≡ []) → pending_in objects (find p cs) ≡ []
 all_found P p [] each objects none = refl
 all_found P p (c ∷ cs) each objects none = by (p c) (all_found P p cs each.1 objects none)
   where
-    by : (b : Rattle.std.specs.Prelude.Bool) → pending_in objects (Rattle.std.specs.Prelude.find p cs) ≡ [] → pending_in objects (Rattle.std.proofs.Common.cond b (Some c) (Rattle.std.specs.Prelude.find p cs)) ≡ []
-    by Rattle.std.specs.Prelude.true rest = none c each.0
-    by Rattle.std.specs.Prelude.false rest = rest
+    by : (b : Bool) → pending_in objects (find p cs) ≡ [] → pending_in objects (cond b (Some c) (find p cs)) ≡ []
+    by true rest = none c each.0
+    by false rest = rest
 
 no_commits : (u : UnitName) (c : Course) → IsUnanswered c → commits_in u c ≡ 0
 no_commits u c none = ap (count_by (commits_told c.actor u)) (nothing_told c none)
@@ -98,7 +98,7 @@ new_fits s new =
       tasks = λ m t.
           subst (λ (x : Option Work). Holds objects h (task_at m t s.parts.managers) (pending_of objects m t s.courses) x)
           (sym (ap (work_of m t) new.works ∙ none_in_hand 40 (place m t)))
-          (no_ops m t s.parts.managers new.parts.managers ∙ sym (all_found IsUnanswered (λ c. Rattle.qsg_agenda.specs.Courses.same_actor c.actor (actor.Task m t)) s.courses new.unanswered objects (nothing_pending objects)));
+          (no_ops m t s.parts.managers new.parts.managers ∙ sym (all_found IsUnanswered (λ c. same_actor c.actor (actor.Task m t)) s.courses new.unanswered objects (nothing_pending objects)));
       left_out = all_more IsUnanswered (LeavesOut s.parts) s.courses (out_none s.parts) new.unanswered;
       once = λ u.
           let none = none_commit u s.courses new.unanswered in

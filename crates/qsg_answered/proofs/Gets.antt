@@ -1,7 +1,8 @@
 -- each step of a get
 use Rattle.std.proofs.Common.{◌≡◌, ℕ, List, [], ◌∷◌, ◌++◌, length, map, Bool, true, false, cond, Option, Some, None, Result, Ok, Err, inl, refl, sym, ap, subst, ◌∙◌, arith, append-nil, true≢false}
+use Rattle.qsg_model.specs.declared.history.Op.TheVariants.{Got}
 use Rattle.std.proofs.Math.Seq.{take-length}
-use Rattle.std.specs.Prelude.{◌&&◌, find}
+use Rattle.std.specs.Prelude.{◌&&◌, find, option_map}
 use Rattle.std.specs.List.{AllByRecursion}
 use Rattle.std.specs.Option.{option_and_then}
 use Rattle.std.proofs.lemmas.Bool.{and_parts}
@@ -55,7 +56,7 @@ use Rattle.qsg_works.specs.declared.work.Work.TheVariants as work
 use Rattle.qsg_fit.proofs.Opened.{task_stored, drawn_task}
 use Rattle.qsg_answered.specs.Fits.{IsRead, IsInside, AreInside}
 use Rattle.qsg_answered.proofs.Frames.{IsFrame, frame_same, frame_stored, frame_named, inside_in, inside_with, inside_got}
-use Rattle.qsg_answered.proofs.Outcomes.{IsMove, still, Answered, Moves}
+use Rattle.qsg_answered.proofs.Outcomes.{still, logs_alone, Answered, Moves}
 
 abbrev in_phase : Member → TaskNo → List ℕ → Selector → Phase → Work
 in_phase m t queue select phase = record { member = m; task = t; queue = queue; select = select; phase = phase }
@@ -65,18 +66,10 @@ GetMoves m t ops queue select phase p next = Moves m t ops (work.Get (in_phase m
 
 -- ---- where nothing but logs changes
 
-same_tasks : (m : Member) (t : TaskNo) (p q : Owned) → q.objects ≡ p.objects → q.repo ≡ p.repo → q.managers ≡ p.managers → q.structures ≡ p.structures → IsMove m t p q
-same_tasks m t p q objects repo managers structures = record {
-  objects = objects;
-  lives = ap (λ r. r.lives) repo;
-  frame = subst (IsFrame m t p.managers) (sym managers) (frame_same m t p.managers);
-  inside = λ each. subst (AllByRecursion AreInside) (sym structures) each;
-}
-
 answer_refused : (m : Member) (t : TaskNo) (ops : List (StructNo × Op)) (queue : List ℕ) (select : Selector) (phase : Phase) (p q : Owned) (reason : Reason) (at : Phase) → (task_at m t p.managers).ops ≡ ops
     → q.objects ≡ p.objects → q.repo ≡ p.repo → q.managers ≡ p.managers → q.structures ≡ p.structures → q.history ≡ p.history → GetMoves m t ops queue select phase p (refused reason at q)
 answer_refused m t ops queue select phase p q reason at held objects repo managers structures history = record {
-  move = same_tasks m t p q objects repo managers structures;
+  move = logs_alone m t p q objects repo managers structures;
   history = ap (λ h. h.items) history;
   holds = ap (λ ms. (task_at m t ms).ops) managers ∙ held ∙ sym (append-nil ops);
   ends = tt;
@@ -139,7 +132,7 @@ counts_there a b p s c queue order select e first =
     let mark = visible_is e.mark (and_parts (is_visible e.mark) (lists.is_name e.head.queue queue && lists.meets select e.head) (first-waits queue order select es e first)).0 in
     ap (option_and_then (counted s.rest.logs))
     (found s.rest.outside c e.id es
-    ∙ ap (Rattle.std.specs.Prelude.option_map (held_of s.rest.outside c)) (find-entry_at (lists.is_first queue order select es) es e ordered first)
+    ∙ ap (option_map (held_of s.rest.outside c)) (find-entry_at (lists.is_first queue order select es) es e ordered first)
     ∙ ap (λ x. Some (record (held_of s.rest.outside c e) { mark = x })) mark)
 
 -- a message that is got is held
@@ -154,7 +147,7 @@ read_is a b p s terms epoch queue select e body served first inline =
     ap (held_at (key m)) (sym s.mirrored.history) ∙ sym (s.laws.good terms.structure active e.id.number) ∙ counts_there a b p s terms.structure queue terms.order select e first ∙ sym there in
     record { past = omega arith; held = ap (held_at (key m)) (take-length h) ∙ held }
 
-found_inside : (p : Entry → Bool) (es : List Entry) (e : Entry) → AllByRecursion IsInside es → find p es ≡ Some e → IsInside e
+pub found_inside : (p : Entry → Bool) (es : List Entry) (e : Entry) → AllByRecursion IsInside es → find p es ≡ Some e → IsInside e
 found_inside p [] e each is = absurd (none-some e is)
 found_inside p (x ∷ es) e each is = by (p x) is (found_inside p es e each.1)
   where
@@ -181,7 +174,7 @@ took a b t ops queue select u terms epoch p e (Inline body) s has held inside se
         inside = λ each. inside_with terms.structure (record structure { entries = lists.revise e.id (λ x. Some (got_by u x)) structure.entries }) p.structures each (inside_got u e.id structure (inside_in terms.structure p.structures each));
       };
       history = refl;
-      holds = ap (λ (z : Task). z.ops) (task_stored m t y p.managers has.manager five) ∙ ap (λ l. l ++ (terms.structure, Rattle.qsg_model.specs.declared.history.Op.TheVariants.Got e.id) ∷ []) held;
+      holds = ap (λ (z : Task). z.ops) (task_stored m t y p.managers has.manager five) ∙ ap (λ l. l ++ (terms.structure, Got e.id) ∷ []) held;
       ends = read_is a b p s terms epoch queue select e body served first place;
       out = tt;
       counts = λ v. refl;

@@ -26,8 +26,10 @@ use Rattle.qsg_sound.specs.Sound.{request_in, IsSound}
 use Rattle.qsg_answered.specs.Telling.{requested, pending_after, pending, pending_in, pending_of, commits}
 use Rattle.qsg_answered.specs.Fits.{EndsOther, EndsAsked, is_wait, FitsCourse, Holds, StaysOut, LeavesOut, commits_now, AreUnfailed, AreFitting}
 use Rattle.qsg_answered.proofs.Answering.{IsNextOf, fits_answered, out_answered, commits_answered}
-use Rattle.qsg_answered.proofs.Courses.{course_is, answered_own, answered_apart, all_more, tasks_apart, operator_apart}
-use Rattle.qsg_answered.proofs.Hands.{by_hand, work_same, work_other, counted_with}
+use Rattle.qsg_answered.proofs.Courses.{course_is, answered_own, answered_apart, all_more}
+use Rattle.qsg_sound.proofs.Answering.{tasks_apart, operator_apart}
+use Rattle.qsg_sound.proofs.Hands.{by_hand, work_same, work_other}
+use Rattle.qsg_answered.proofs.Hands.{counted_with}
 use Rattle.qsg_answered.proofs.Outcomes.{one_if, named_in, Goes, Answered}
 use Rattle.qsg_answered.proofs.Staying.{GoesOn, course_stays, leaves_out_stays, other_holds, hand_apart}
 use Rattle.qsg_answered.proofs.Taking.{IsTaken}

@@ -7,9 +7,7 @@ pub mod Gets
 pub mod Committing
 pub mod Ending
 pub mod Working
-pub mod Owning
 pub mod Hands
-pub mod Asking
 pub mod Answering
 pub mod Staying
 pub mod Taking
@@ -19,3 +17,4 @@ pub mod Steps
 pub mod Histories
 pub mod Deciding
 pub mod Showing
+pub mod Belonging

@@ -1,5 +1,5 @@
 -- what each step of a request leaves of the group and of the operations that are pending
-use Rattle.std.proofs.Common.{◌≡◌, ℕ, ◌+◌, List, [], ◌∷◌, ◌++◌, length, Bool, false, cond, Some, ◌⊎◌, refl}
+use Rattle.std.proofs.Common.{◌≡◌, ℕ, ◌+◌, List, [], ◌∷◌, ◌++◌, length, Bool, false, cond, Some, ◌⊎◌, refl, sym, ap, subst}
 use Rattle.std.specs.Prelude.{count_by}
 use Rattle.std.specs.List.{AllByRecursion}
 use Rattle.qsg_num.specs.declared.seats.Member.{Member}
@@ -32,6 +32,15 @@ pub record IsMove (m : Member) (t : TaskNo) (p q : Owned) : Type 0 where
 
 pub still : (m : Member) (t : TaskNo) (p : Owned) → IsMove m t p p
 still m t p = record { objects = refl; lives = refl; frame = frame_same m t p.managers; inside = λ each. each }
+
+-- nothing that is looked at changes, as where only logs do
+pub logs_alone : (m : Member) (t : TaskNo) (p q : Owned) → q.objects ≡ p.objects → q.repo ≡ p.repo → q.managers ≡ p.managers → q.structures ≡ p.structures → IsMove m t p q
+logs_alone m t p q objects repo managers structures = record {
+  objects = objects;
+  lives = ap (λ r. r.lives) repo;
+  frame = subst (IsFrame m t p.managers) (sym managers) (frame_same m t p.managers);
+  inside = λ each. subst (AllByRecursion AreInside) (sym structures) each;
+}
 
 -- the history has one unit more, which the task held
 pub record IsAdded (m : Member) (t : TaskNo) (p q : Owned) : Type 0 where

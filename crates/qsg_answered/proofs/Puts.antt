@@ -1,7 +1,8 @@
 -- each step of a put
-use Rattle.std.proofs.Common.{◌≡◌, ℕ, List, [], ◌++◌, length, Option, Some, None, Result, Ok, Err, inl, refl, sym, ap, subst, ◌∙◌, append-nil}
+use Rattle.std.proofs.Common.{◌≡◌, ℕ, List, [], ◌++◌, length, Option, Some, None, Result, Ok, Err, inl, refl, sym, ap, ◌∙◌, append-nil}
+use Rattle.qsg_lists.specs.declared.parts.Place.TheVariants.{Inline}
 use Rattle.std.specs.Prelude.{IsSome, option_map}
-use Rattle.std.specs.List.{AllByRecursion, cons_option}
+use Rattle.std.specs.List.{cons_option}
 use Rattle.std.proofs.lemmas.Option.{none-some, same_Some}
 use Rattle.qsg_num.specs.declared.seats.Member.{Member}
 use Rattle.qsg_num.specs.declared.seats.StructNo.{StructNo}
@@ -41,9 +42,9 @@ use Rattle.qsg_put.proofs.Results.{terms_are}
 use Rattle.qsg_works.specs.declared.work.Work.TheVariants as work
 use Rattle.qsg_fit.proofs.Opened.{task_stored, drawn_task}
 use Rattle.qsg_answered.specs.Telling.{put_of}
-use Rattle.qsg_answered.specs.Fits.{HasTerms, AreInside}
+use Rattle.qsg_answered.specs.Fits.{HasTerms}
 use Rattle.qsg_answered.proofs.Frames.{IsFrame, frame_same, frame_stored, frame_named, inside_in, inside_with, inside_written}
-use Rattle.qsg_answered.proofs.Outcomes.{IsMove, still, Moves}
+use Rattle.qsg_answered.proofs.Outcomes.{still, logs_alone, Moves}
 
 abbrev in_phase : Member → TaskNo → PutWords → Phase → Work
 in_phase m t words phase = record { member = m; task = t; words = words; phase = phase }
@@ -53,18 +54,10 @@ PutMoves m t ops words phase p next = Moves m t ops (work.Put (in_phase m t word
 
 -- ---- where nothing but logs changes
 
-same_tasks : (m : Member) (t : TaskNo) (p q : Owned) → q.objects ≡ p.objects → q.repo ≡ p.repo → q.managers ≡ p.managers → q.structures ≡ p.structures → IsMove m t p q
-same_tasks m t p q objects repo managers structures = record {
-  objects = objects;
-  lives = ap (λ r. r.lives) repo;
-  frame = subst (IsFrame m t p.managers) (sym managers) (frame_same m t p.managers);
-  inside = λ each. subst (AllByRecursion AreInside) (sym structures) each;
-}
-
 answer_refused : (m : Member) (t : TaskNo) (ops : List (StructNo × Op)) (words : PutWords) (phase : Phase) (p q : Owned) (reason : Reason) (at : Phase) → (task_at m t p.managers).ops ≡ ops
     → q.objects ≡ p.objects → q.repo ≡ p.repo → q.managers ≡ p.managers → q.structures ≡ p.structures → q.history ≡ p.history → PutMoves m t ops words phase p (refused reason at q)
 answer_refused m t ops words phase p q reason at held objects repo managers structures history = record {
-  move = same_tasks m t p q objects repo managers structures;
+  move = logs_alone m t p q objects repo managers structures;
   history = ap (λ h. h.items) history;
   holds = ap (λ ms. (task_at m t ms).ops) managers ∙ held ∙ sym (append-nil ops);
   ends = tt;
@@ -150,7 +143,7 @@ writing a b m t ops words u terms epoch p None s has held is =
         objects = refl;
         lives = refl;
         frame = frame_stored m t y p.managers has.manager five (λ v holds. holds);
-        inside = λ each. inside_with terms.structure (written structure u (head_of words terms) (Rattle.qsg_lists.specs.declared.parts.Place.TheVariants.Inline words.body)) p.structures each
+        inside = λ each. inside_with terms.structure (written structure u (head_of words terms) (Inline words.body)) p.structures each
             (inside_written structure u (head_of words terms) words.body (inside_in terms.structure p.structures each));
       };
       history = refl;

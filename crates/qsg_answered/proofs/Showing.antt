@@ -42,9 +42,10 @@ use Rattle.qsg_step.specs.States.{State}
 use Rattle.qsg_sound.specs.Sound.{IsSound}
 use Rattle.qsg_answered.specs.Telling.{pending_of}
 use Rattle.qsg_answered.specs.Fits.{IsInside, commits_of, AreFitting}
-use Rattle.qsg_answered.specs.Fresh.{IsDelivered, is_shown, IsShown, AreShown, IsAtRest, IsQuiet, AreQuiet}
+use Rattle.qsg_answered.specs.Fresh.{IsNamed, IsDelivered, is_shown, IsShown, AreShown, IsAtRest, AreQuiet}
 use Rattle.qsg_answered.proofs.Deciding.{decides, unanswered}
 use Rattle.qsg_answered.proofs.Frames.{inside_in}
+use Rattle.qsg_answered.proofs.Gets.{found_inside}
 use Rattle.qsg_answered.proofs.Histories.{once, put_or_got, left_claimed, unit_got, put_once}
 
 -- ---- a unit that is committed, and whose mark is left, isn't answered
@@ -73,7 +74,7 @@ marked_live s t v m sound fits committed given holds due =
     elim (put_or_got (key m) ops claimed) [
       | inl put ↦
           let same = put_once (key m) h v given.unit ops given.ops legal.puts_differ deciding.settled.committed.there given.there put given.put in
-          unanswered s v.member t v sound fits deciding.commits (subst (λ (x : UnitName). Rattle.qsg_answered.specs.Fresh.IsAnswered x s.courses) (sym same) given.answered)
+          unanswered s v.member t v sound fits deciding.commits (subst (λ (x : UnitName). IsNamed x s.courses) (sym same) given.answered)
       | inr got ↦ none-some m (sym (got_is_unheld (key m) h legal (unit_got (key m) h v ops deciding.settled.committed.there got)) ∙ given.held)
     ]
 
@@ -106,14 +107,6 @@ inline_is : (e : Entry) (place : Place) → e.place ≡ place → IsInside e →
 inline_is e (Inline body) is inside = (body, is)
 inline_is e (Offloaded owner blocks long) is inside = absurd (true≢false (sym (ap is_outside is) ∙ inside))
 
-there_inside : (p : Entry → Bool) (es : List Entry) (e : Entry) → AllByRecursion IsInside es → Rattle.std.specs.Prelude.find p es ≡ Some e → IsInside e
-there_inside p [] e each is = absurd (none-some e is)
-there_inside p (x ∷ es) e each is = by (p x) is (there_inside p es e each.1)
-  where
-    by : (b : Bool) → cond b (Some x) (Rattle.std.specs.Prelude.find p es) ≡ Some e → (Rattle.std.specs.Prelude.find p es ≡ Some e → IsInside e) → IsInside e
-    by true is rest = subst IsInside (same_Some x e is) each.0
-    by false is rest = rest is
-
 -- the machine's entry of an id
 entry_is : (s : State) (sound : IsSound s) (x : StructNo) (id : EntryId) (o : Option Entry) → lists.entry_at id (structure_in x s.parts.structures).entries ≡ o
     → entry_at id.number (map (held_of sound.steady.rest.outside x) (structure_in x s.parts.structures).entries) ≡ option_map (held_of sound.steady.rest.outside x) o
@@ -138,7 +131,7 @@ shows s sound m e fits active given is =
     marked_put s v m sound fits committed given
     (subst (λ (y : Message). MarkNames sound.steady.rest.failed (λ k w. task_at k w s.parts.managers) (key m) y (PutBy v)) same
     (subst (λ (y : Mark). MarkNames sound.steady.rest.failed (λ k w. task_at k w s.parts.managers) (key m) msg y) mark named))) in
-    let inline = inline_is e e.place refl (there_inside (lists.has_id m.id) structure.entries e (inside_in m.structure s.parts.structures fits.inside) is) in
+    let inline = inline_is e e.place refl (found_inside (lists.has_id m.id) structure.entries e (inside_in m.structure s.parts.structures fits.inside) is) in
     let same : message_of m.structure e.id e.head inline.0 ≡ m = ap (λ (y : Place). message_of m.structure e.id e.head (body_of outside y)) (sym inline.1) ∙ both.0 in
     let body : inline.0 ≡ m.body = ap (λ (y : Message). y.body) same in
     record {

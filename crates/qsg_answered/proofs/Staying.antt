@@ -1,5 +1,6 @@
 -- what a step of one task leaves of the facts on all others
 use Rattle.std.proofs.Common.{◌≡◌, List, [], ◌∷◌, ◌++◌, Bool, true, false, Option, Some, None, ◌⊎◌, inl, inr, refl, sym, ap, subst, ◌∙◌, arith}
+use Rattle.qsg_fit.specs.Outcomes.{FitsEnd}
 use Rattle.std.specs.Prelude.{◌||◌}
 use Rattle.std.specs.List.{AllByRecursion}
 use Rattle.qsg_num.specs.declared.seats.Member.{Member}
@@ -38,9 +39,9 @@ use Rattle.qsg_sound.specs.Sound.{IsHand, IsSound}
 use Rattle.qsg_answered.specs.Telling.{requested, told}
 use Rattle.qsg_answered.specs.Fits.{FitsCourse, HoldsEnd, Holds, IsLeftOut, StaysOut, StaysOutTold, LeavesOut}
 use Rattle.qsg_answered.proofs.Frames.{IsNext, IsFrame}
-use Rattle.qsg_answered.proofs.Hands.{by_hand}
+use Rattle.qsg_sound.proofs.Hands.{by_hand}
 use Rattle.qsg_answered.proofs.Outcomes.{IsMove, IsAdded}
-use Rattle.qsg_answered.proofs.Owning.{at_owner}
+use Rattle.qsg_sound.proofs.Owning.{at_owner}
 use Rattle.qsg_answered.proofs.Told.{committed_longer, fits_longer}
 
 -- ---- the history is as it was, or has the unit of that task besides
@@ -161,7 +162,7 @@ hand_apart s m t k w v (Some (Commit work)) sound differ holds hand = by work.ph
     here : (u : UnitName) → (task_at work.member work.task s.parts.managers).unit ≡ Some u → (task_at k w s.parts.managers).unit ≡ Some u
     here u has = at_owner (λ x y. (task_at x y s.parts.managers).unit ≡ Some u) (Commit work) k w hand.own has
 
-    by : (phase : EndPhase) → Rattle.qsg_fit.specs.Outcomes.FitsEnd (task_at work.member work.task s.parts.managers) phase → IsApartAt v phase
+    by : (phase : EndPhase) → FitsEnd (task_at work.member work.task s.parts.managers) phase → IsApartAt v phase
     by end_phase.Latch fits = tt
     by (end_phase.Pages u count) fits = tt
     by (end_phase.Settle u count) fits = tt

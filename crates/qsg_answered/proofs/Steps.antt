@@ -31,20 +31,20 @@ use Rattle.qsg_step.specs.declared.asked.Asked.TheVariants as asks
 use Rattle.qsg_step.specs.declared.step.Step.{Step}
 use Rattle.qsg_step.specs.Asking.{asked, IsOwn}
 use Rattle.qsg_step.specs.States.{State, with_failed, is_up}
-use Rattle.qsg_step.specs.Steps.{IsAfter, IsUnmade, work_before, WorkSteps, StepAsked, StepUnless, StepAt, IsStep}
+use Rattle.qsg_step.specs.Steps.{IsAfter, IsUnmade, work_before, WorkSteps, StepAsked, StepUnless, StepAt, IsStep, with_answer}
 use Rattle.qsg_step.specs.Waiting.{cause_of}
 use Rattle.qsg_sound.specs.Founding.{IsNewState}
 use Rattle.qsg_sound.specs.Sound.{IsSound}
 use Rattle.qsg_answered.specs.Telling.{requested, pending_of}
 use Rattle.qsg_answered.specs.Fits.{EndsOther, is_wait, Holds, LeavesOut, AreFitting}
 use Rattle.qsg_answered.proofs.Answering.{IsNextOf}
-use Rattle.qsg_answered.proofs.Asking.{asked_own, up_unless, up_within}
+use Rattle.qsg_sound.proofs.Asking.{asked_own, up_unless, up_within}
 use Rattle.qsg_answered.proofs.Courses.{all_more, next_course}
 use Rattle.qsg_answered.proofs.Founded.{new_fits}
 use Rattle.qsg_answered.proofs.Frames.{frame_same}
 use Rattle.qsg_answered.proofs.Keeping.{goes_fitting, answered_fitting, answer_fitting}
 use Rattle.qsg_answered.proofs.Outcomes.{Goes, Moves}
-use Rattle.qsg_answered.proofs.Owning.{at_owner, at_work}
+use Rattle.qsg_sound.proofs.Owning.{at_owner, at_work}
 use Rattle.qsg_answered.proofs.Staying.{leaves_out_stays}
 use Rattle.qsg_answered.proofs.Taking.{IsTaken, taken_is}
 use Rattle.qsg_answered.proofs.Working.{work_moves, failed_goes}
@@ -115,7 +115,7 @@ none_asked actor.Operator directive.Backout = (refl, tt)
 none_asked actor.Operator (directive.Wait other answers) = (refl, refl)
 none_asked actor.Operator other = (refl, tt)
 
-answer_fits : (who : Actor) (d : Directive) (said : Reply) (s : State) → AreFitting s → next_of who s.courses ≡ Some d → requested who d ≡ None → EndsOther (is_wait d) said → AreFitting (Rattle.qsg_step.specs.Steps.with_answer who d said s)
+answer_fits : (who : Actor) (d : Directive) (said : Reply) (s : State) → AreFitting s → next_of who s.courses ≡ Some d → requested who d ≡ None → EndsOther (is_wait d) said → AreFitting (with_answer who d said s)
 answer_fits who d said s fits next none ends = let found = next_is who d s next in answer_fitting who d said found.0 s fits found.1 none ends
 
 -- ---- a step

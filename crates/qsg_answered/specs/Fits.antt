@@ -48,14 +48,14 @@ use Rattle.qsg_answered.specs.Telling.{requested, with_answered, told, pending_o
 -- ---- one answer
 
 -- so many operations, one at least
-pub record IsCounted (ops : List (StructNo × Op)) (count : ℕ) : Type 0 where
+pub record IsCountOf (ops : List (StructNo × Op)) (count : ℕ) : Type 0 where
   pub counted : count ≡ length ops
   pub some : 0 < count
 
 -- the unit is in the history with exactly these operations, of which there are so many
 pub record IsCommitted (h : List Item) (u : UnitName) (ops : List (StructNo × Op)) (count : ℕ) : Type 0 where
   pub there : Contains h (UnitOf u ops)
-  pub counted : IsCounted ops count
+  pub counted : IsCountOf ops count
 
 -- a message that was got was held, with that body, by the history as it was at that step
 pub record IsRead (h : List Item) (at : ℕ) (m : Message) : Type 0 where
@@ -74,7 +74,7 @@ EndsCommit h ops (Some u) count = IsCommitted h u ops count
 
 abbrev pub EndsBackout : List (StructNo × Op) → Option UnitName → ℕ → Type 0
 EndsBackout ops None count = IsNothing ops count
-EndsBackout ops (Some u) count = IsCounted ops count
+EndsBackout ops (Some u) count = IsCountOf ops count
 
 -- how a request may end, with what was pending before it and the items that the history had then
 abbrev pub EndsRequest : Registry → List Item → List (StructNo × Op) → ℕ → Request → Reply → Type 0
@@ -127,11 +127,11 @@ pub record IsSettled (h : List Item) (task : Task) (u : UnitName) (ops : List (S
 -- BACKOUT in hand isn't in the history.
 abbrev pub HoldsEnd : List Item → Task → List (StructNo × Op) → EndPhase → Type 0
 HoldsEnd h task ops end_phase.Latch = task.ops ≡ ops
-HoldsEnd h task ops (end_phase.Pages u count) = (task.ops ≡ ops) × IsCounted ops count
+HoldsEnd h task ops (end_phase.Pages u count) = (task.ops ≡ ops) × IsCountOf ops count
 HoldsEnd h task ops (end_phase.Settle u count) = IsSettled h task u ops count
 HoldsEnd h task ops (end_phase.Publish u count) = IsSettled h task u ops count
 HoldsEnd h task ops end_phase.GiveUp = task.ops ≡ ops
-HoldsEnd h task ops (end_phase.Undo u count) = (is_unit u h ≡ false) × IsCounted ops count
+HoldsEnd h task ops (end_phase.Undo u count) = (is_unit u h ≡ false) × IsCountOf ops count
 
 -- a task's unit has the operations that are pending, until a COMMIT or BACKOUT in hand has decided it
 abbrev pub Holds : Registry → List Item → Task → List (StructNo × Op) → Option Work → Type 0

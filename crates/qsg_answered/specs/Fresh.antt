@@ -28,8 +28,8 @@ use Rattle.qsg_step.specs.States.{State}
 use Rattle.qsg_answered.specs.Fits.{commits_in}
 
 -- an answer to a COMMIT named the unit
-abbrev pub IsAnswered : UnitName → List Course → Type 0
-IsAnswered u courses = 0 < sum_by (commits_in u) courses
+abbrev pub IsNamed : UnitName → List Course → Type 0
+IsNamed u courses = 0 < sum_by (commits_in u) courses
 
 -- the history holds the message, which a unit put whose COMMIT was answered
 pub record IsDelivered (m : Message) (h : List Item) (courses : List Course) : Type 0 where
@@ -38,7 +38,7 @@ pub record IsDelivered (m : Message) (h : List Item) (courses : List Course) : T
   pub ops : List (StructNo × Op)
   pub there : Contains h (UnitOf unit ops)
   pub put : is_put (key m) ops ≡ true
-  pub answered : IsAnswered unit courses
+  pub answered : IsNamed unit courses
 
 -- anyone may get the message of the entry, or a unit got it that hasn't ended
 abbrev pub is_shown : Mark → Bool
@@ -67,6 +67,6 @@ IsAtRest x s = (m : Member) (t : TaskNo) → AllByRecursion (IsElsewhere x) (tas
 abbrev pub IsQuiet : ListStructure → Type 0
 IsQuiet structure = (id : EntryId) (e : Entry) → entry_at id structure.entries ≡ Some e → is_pending e.mark ≡ false
 
--- so is each structure, once no unit in hand has work on it
+-- each structure is quiet once no unit in hand has work on it
 abbrev pub AreQuiet : State → Type 0
 AreQuiet s = (x : StructNo) → IsAtRest x s → IsQuiet (structure_in x s.parts.structures)

@@ -1,3 +1,4 @@
 pub mod Telling
 pub mod Fits
 pub mod Fresh
+pub mod Belonging

@@ -7,10 +7,16 @@ ghost use Rattle.qsg_num.specs.declared.ids.UnitName.{UnitName};
 ghost use Rattle.qsg_num.specs.declared.seats.StructNo.{StructNo};
 ghost use Rattle.qsg_step.specs.States.{State};
 ghost use Rattle.qsg_sound.specs.Sound.{IsSound};
+ghost use Rattle.qsg_answered.specs.Belonging.{Belongs};
 ghost use Rattle.qsg_answered.specs.Fits.{commits_of, AreFitting};
 ghost use Rattle.qsg_answered.specs.Fresh.{AreShown, AreQuiet};
 
-/// Each unit of the history belongs to exactly one COMMIT, answered or in hand.
+/// A unit of the history belongs to a COMMIT, answered or in hand, and its operations are those that were pending there.
+pub fn a_unit_has_what_was_pending()
+    ensures { (s : State) (u : UnitName) (ops : List (StructNo × Op)) → IsSound s → AreFitting s → Contains s.parts.history.items (UnitOf u ops) → Belongs u ops s }
+{}
+
+/// It belongs to exactly one.
 pub fn a_unit_belongs_to_one_commit()
     ensures { (s : State) (u : UnitName) (ops : List (StructNo × Op)) → IsSound s → AreFitting s → Contains s.parts.history.items (UnitOf u ops) → commits_of u s.courses s.works ≡ 1 }
 {}

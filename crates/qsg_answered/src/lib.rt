@@ -9,7 +9,7 @@ mod laws;
 
 pub use following::{
     a_structure_at_rest_has_no_pending_entry, a_unit_belongs_to_one_commit,
-    what_was_delivered_is_shown,
+    a_unit_has_what_was_pending, what_was_delivered_is_shown,
 };
 pub use laws::{
     a_step_keeps_answers_fitting, a_step_that_wants_memory_keeps_answers_fitting,

@@ -99,6 +99,13 @@ impl Structure {
         search::find_above(&self.entries, id)
     }
 
+    /// Its entries, in order of their ids, in any state.
+    pub fn entries(&self) -> &[Entry]
+        ensures { result.now ≡ self.now.entries }
+    {
+        self.entries.as_slice()
+    }
+
     /// Begins to use the structure in its present epoch. Lost exactly where it isn't active.
     pub fn connect(&self) -> Result<Seen, Lost>
         ensures { result ≡ connect_answer self.now }

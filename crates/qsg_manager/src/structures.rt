@@ -46,6 +46,14 @@ impl Structures {
         self.items.len()
     }
 
+    /// The structure of a number.
+    pub fn structure(&self, number: StructNo) -> &Structure
+        requires within { structure_number number ≤ length self.now }
+        ensures { result.now ≡ structure_in number self.now }
+    {
+        &self.items[number.index()]
+    }
+
     /// What a user of a structure is told at its first use.
     pub fn connect(&self, structure: StructNo) -> Result<Seen, Lost>
         requires within { structure_number structure ≤ length self.now }

@@ -1,11 +1,6 @@
-pub mod Appends
-pub mod FirstOpen
+pub mod Back
+pub mod Due
 pub mod Exact
-pub mod Faults
-pub mod Legal
-pub mod Lines
-pub mod OneReading
+pub mod Paces
 pub mod Pieces
-pub mod Runs
-pub mod Shown
-pub mod Words
+pub mod Pushing

@@ -1,7 +1,6 @@
-pub mod Group
-pub mod Laws
 pub mod Outside
-pub mod Report
-pub mod Script
+pub mod Replays
+pub mod Shows
 pub mod Statuses
+pub mod Texts
 pub mod Top

@@ -1,90 +1,96 @@
 //! The top call, which does all that the program does.
 
-ghost use Rattle.std.specs.Prelude.{◌≡◌, ◌≢◌, ◌<◌, ◌-◌, ◌^◌, ◌↔◌, ◌++◌, codes, List, ℕ, Some, take, map, length, IsTrue, IfOk, IfErr, string_bytes};
-ghost use Rattle.qsg_run.specs.Group.{run_from, empty_state};
+ghost use Rattle.std.specs.Prelude.{◌≡◌, ◌≢◌, ◌≤◌, List, ℕ, Option, Some, None, take, map, option_map, IfOk, IfErr, string_bytes};
+ghost use Rattle.qsg_disk.specs.declared.kinds.Kind.TheVariants.{Log};
+ghost use Rattle.qsg_objects.specs.declared.plans.Plan.{Plan};
+ghost use Rattle.qsg_script.specs.declared.faults.ScriptFault.{ScriptFault};
+ghost use Rattle.qsg_script.specs.Script.{IsPlan, IsFirstFault};
+ghost use Rattle.qsg_words.specs.declared.command.Command.TheVariants as commands;
+ghost use Rattle.qsg_words.specs.Table.{command_of};
 ghost use Rattle.qsg_run.specs.Outside.{read_limit};
-ghost use Rattle.qsg_run.specs.Report.{line_end, report_text};
-ghost use Rattle.qsg_run.specs.Script.{IsScript, IsFault};
-ghost use Rattle.qsg_run.specs.Top.{replay_words, IsReport, IsStop, Sent, Ends, IsUnlessFailed, IsUnlessUnwritten};
-ghost use Rattle.qsg_run.specs.declared.script.Directive.{Directive};
-ghost use Rattle.qsg_run.specs.declared.script.Why.{Why};
+ghost use Rattle.qsg_sysplex.specs.Plans.{IsWorkable};
+ghost use Rattle.qsg_run.specs.Texts.{no_memory_text};
+ghost use Rattle.qsg_run.specs.Top.{Met, IsAsked, IsScript, IsObeyed, IsReport, IsStop, IsNoCommand, IsNoPlan, IsNoRun, Sent, Ends, IsUsage, HasRun, IsUnlessFailed};
 
-use crate::group::run;
+use crate::dues::{Due, Stop, fault_line};
 use crate::outside::{ReadStop, read_all, write_all};
-use crate::report::{fault_line, report};
-use crate::script::{Directive, ReadError, ScriptFault, read};
+use crate::replays::replay_plan;
 use crate::status::Status;
+use qsg_disk::Rig;
 use qsg_io::{Sink, Source};
+use qsg_objects::Plan;
+use qsg_report::definitions;
+use qsg_script::{ScriptError, read};
+use qsg_words::{Command, WordsError};
 use std::alloc::{AllocError, Global};
 
 /// What is printed where the words are none that the program knows.
 const USAGE: &[u8] = b"usage: qsg replay [--seed N] / run / check / gen N / soak N\n";
 
-/// Why there is no report.
-#[derive(Debug, Drop)]
-pub enum Stop {
-    /// The words are none that the program knows.
-    Usage,
-    /// The bytes are no script.
-    Script(ScriptFault),
-    /// The source failed.
-    Read,
-    NoMemory,
-}
-
-/// Whether the words are those of a replay.
-fn is_replay(words: &[String]) -> bool
-    ensures { IsTrue result ↔ (map (λ w. string_bytes w) words.now ≡ replay_words) }
+/// What the words ask for.
+fn command_of(alloc: Global, words: &[String]) -> Result<Command, Stop>
+    ensures command { IfOk result (λ c. command_of (map (λ w. string_bytes w) words.now) ≡ Some c) }
+    ensures stop { IfErr result (λ e. IsNoCommand (command_of (map (λ w. string_bytes w) words.now)) e) }
 {
-    match words {
-        [word] => word.as_bytes() == b"replay".as_slice(),
-        _ => false,
+    match Command::of(alloc, words) {
+        Ok(command) => Ok(command),
+        Err(WordsError::Usage) => Err(Stop::Usage),
+        Err(WordsError::NoMemory) => Err(Stop::NoMemory),
     }
 }
 
-/// The report of the state that the directives lead to.
-fn replayed(alloc: Global, directives: &[Directive]) -> Result<Vec<u8>, AllocError>
-    requires { length directives.now < 2 ^ 32 - 2 }
-    ensures { IfOk result (λ text. text.items ≡ report_text
-        (run_from directives.now empty_state).history
-        (run_from directives.now empty_state).answers
-        (run_from directives.now empty_state).entries) }
+/// The plan of the script of a source.
+fn plan_of<S: Source>(alloc: Global, source: &mut S) -> Result<Plan, Stop>
+    ensures plan { IfOk result (IsScript (S.left source.old)) }
+    ensures stop { IfErr result (IsNoPlan (S.left source.old) (S.faults source.old) (S.faults source.new)) }
 {
-    let group = run(alloc, directives)?;
-    report(alloc, group.answers(), group.history(), group.entries())
-}
-
-/// The report, or why there is none.
-fn outcome<S: Source>(alloc: Global, words: &[String], source: &mut S) -> Result<Vec<u8>, Stop>
-    ensures words { IfOk result (λ text. map (λ w. string_bytes w) words.now ≡ replay_words) }
-    ensures report { IfOk result (λ text. IsReport (S.left source.old) text.items) }
-    ensures stop { IfErr result (λ e. IsStop (map (λ w. string_bytes w) words.now)
-        (S.left source.old) (S.faults source.old) (S.faults source.new) e) }
-{
-    if !is_replay(words) {
-        return Err(Stop::Usage);
-    }
     let bytes = match read_all(alloc, source) {
         Ok(bytes) => bytes,
         Err(ReadStop::NoMemory) => return Err(Stop::NoMemory),
         Err(ReadStop::Fault) => return Err(Stop::Read),
     };
-    let directives = match read(alloc, bytes.as_slice()) {
-        Ok(directives) => directives,
-        Err(ReadError::NoMemory) => return Err(Stop::NoMemory),
-        Err(ReadError::Fault(fault)) => return Err(Stop::Script(fault)),
-    };
-    match replayed(alloc, directives.as_slice()) {
-        Ok(text) => Ok(text),
-        Err(_) => Err(Stop::NoMemory),
+    match read(alloc, bytes.as_slice()) {
+        Ok(plan) => Ok(plan),
+        Err(ScriptError::NoMemory) => Err(Stop::NoMemory),
+        Err(ScriptError::Fault(fault)) => Err(Stop::Script(fault)),
     }
+}
+
+/// What a command makes of a plan.
+fn obeyed<R: Rig>(alloc: Global, command: Command, plan: Plan, rig: &mut R) -> Result<Due, Stop>
+    requires { IsWorkable plan }
+    ensures due { IfOk result (λ due. IsObeyed command plan (record { tells = R.tells rig.old; logs = λ m. option_map (λ d. R.D.bytes d) (R.given rig.new m Log) }) due.status due.text) }
+    ensures stop { IfErr result (IsNoRun command (R.faults rig.old) (R.faults rig.new)) }
+    ensures later { R.faults rig.old ≤ R.faults rig.new }
+{
+    match command {
+        Command::Replay(seed) => replay_plan(alloc, seed, plan, rig),
+        Command::Check => Ok(Due {
+            status: Status::Finished,
+            text: definitions(alloc, &plan.objects, &plan.sizes)?,
+        }),
+    }
+}
+
+/// What is due, or why there is nothing to report.
+fn outcome<S: Source, R: Rig>(
+    alloc: Global,
+    words: &[String],
+    source: &mut S,
+    rig: &mut R,
+) -> Result<Due, Stop>
+    ensures due { IfOk result (λ due. IsReport (record { words = map (λ w. string_bytes w) words.now; left = S.left source.old; read_before = S.faults source.old; read_now = S.faults source.new; rig_before = R.faults rig.old; rig_now = R.faults rig.new; back = record { tells = R.tells rig.old; logs = λ m. option_map (λ d. R.D.bytes d) (R.given rig.new m Log) } }) due.status due.text) }
+    ensures stop { IfErr result (IsStop (record { words = map (λ w. string_bytes w) words.now; left = S.left source.old; read_before = S.faults source.old; read_now = S.faults source.new; rig_before = R.faults rig.old; rig_now = R.faults rig.new; back = record { tells = R.tells rig.old; logs = λ m. option_map (λ d. R.D.bytes d) (R.given rig.new m Log) } })) }
+{
+    let command = command_of(alloc, words)?;
+    let plan = plan_of(alloc, source)?;
+    obeyed(alloc, command, plan, rig)
 }
 
 /// Writes the text that is due, and gives the status: the one that is due, unless a write fails.
 fn send<K: Sink>(sink: &mut K, text: &[u8], status: Status) -> Status
     requires { status ≢ Status.WriteFault }
-    ensures { Sent status text.now (K.written sink.old) (K.written sink.new)
-        (K.faults sink.old) (K.faults sink.new) result }
+    ensures { Sent status text.now (K.written sink.old) (K.written sink.new) (K.faults sink.old) (K.faults sink.new) result }
 {
     match write_all(sink, text) {
         Ok(()) => status,
@@ -94,62 +100,71 @@ fn send<K: Sink>(sink: &mut K, text: &[u8], status: Status) -> Status
 
 /// Ends a call for which memory is wanting: writes `no memory`. A program calls it that can't even hold its words.
 pub fn no_memory<K: Sink>(sink: &mut K) -> Status
-    ensures { Sent Status.NoMemory (codes "no memory" ++ line_end) (K.written sink.old) (K.written sink.new)
-        (K.faults sink.old) (K.faults sink.new) result }
+    ensures { Sent Status.NoMemory no_memory_text (K.written sink.old) (K.written sink.new) (K.faults sink.old) (K.faults sink.new) result }
 {
     send(sink, b"no memory\n", Status::NoMemory)
 }
 
-/// Makes what is due, whole, and then writes it.
-fn finish<S: Source, K: Sink>(
-    alloc: Global,
-    words: &[String],
-    source: &mut S,
-    sink: &mut K,
-) -> Status
-    ensures { Ends (map (λ w. string_bytes w) words.now)
-        (S.left source.old) (S.faults source.old) (S.faults source.new)
-        (K.written sink.old) (K.written sink.new) (K.faults sink.old) (K.faults sink.new)
-        result }
+/// Writes why there is nothing to report.
+fn send_stop<K: Sink>(alloc: Global, sink: &mut K, stop: Stop) -> Status
+    ensures { (met : Met) → IsStop met stop → Ends met (K.written sink.old) (K.written sink.new) (K.faults sink.old) (K.faults sink.new) result }
 {
-    match outcome(alloc, words, source) {
-        Ok(text) => send(sink, text.as_slice(), Status::Finished),
-        Err(Stop::Usage) => send(sink, USAGE, Status::Usage),
-        Err(Stop::Read) => send(sink, b"read fault\n", Status::ReadFault),
-        Err(Stop::NoMemory) => no_memory(sink),
-        Err(Stop::Script(fault)) => match fault_line(alloc, fault) {
+    match stop {
+        Stop::Usage => send(sink, USAGE, Status::Usage),
+        Stop::Read => send(sink, b"read fault\n", Status::ReadFault),
+        Stop::Rig => send(sink, b"rig fault\n", Status::RigFault),
+        Stop::NoMemory => no_memory(sink),
+        Stop::Script(fault) => match fault_line(alloc, &fault) {
             Ok(text) => send(sink, text.as_slice(), Status::Script),
             Err(_) => no_memory(sink),
         },
     }
 }
 
-/// Does all that the program does: replays the script of the source, and writes the report to the sink.
-/// `words` are the words after the program's name. It always returns; all that it has to say goes to the
-/// sink, made whole before its first byte is written.
-///
-/// - `ends`: with each status comes its cause, and what was written. Finished: the bytes read are a script,
-///   and what was written is the report of the state that its directives lead to, which obeys the laws.
-///   ReadFault and WriteFault come only where the count of faults of the source or the sink rose.
-/// - `usage`: Usage comes where the words are wrong, and only WriteFault comes in place of it.
-/// - `finished`: Finished comes where the words are right and the bytes are a script, unless a read or a
-///   write failed or memory was wanting.
-/// - `script`: Script comes where the words are right and the bytes have a fault, with the same exceptions.
-pub fn replay<S: Source, K: Sink>(
+/// Makes what is due, whole, and then writes it.
+fn finish<S: Source, K: Sink, R: Rig>(
     alloc: Global,
     words: &[String],
     source: &mut S,
     sink: &mut K,
+    rig: &mut R,
 ) -> Status
-    ensures ends { Ends (map (λ w. string_bytes w) words.now)
-        (S.left source.old) (S.faults source.old) (S.faults source.new)
-        (K.written sink.old) (K.written sink.new) (K.faults sink.old) (K.faults sink.new)
-        result }
-    ensures usage { map (λ w. string_bytes w) words.now ≢ replay_words → IsUnlessUnwritten Status.Usage result }
-    ensures finished { map (λ w. string_bytes w) words.now ≡ replay_words → (all : List ℕ) (ds : List Directive) →
-        S.left source.old ≡ Some all → IsScript (take read_limit all) ds → IsUnlessFailed Status.Finished result }
-    ensures script { map (λ w. string_bytes w) words.now ≡ replay_words → (all : List ℕ) (line : ℕ) (why : Why) →
-        S.left source.old ≡ Some all → IsFault (take read_limit all) line why → IsUnlessFailed Status.Script result }
+    ensures { Ends (record { words = map (λ w. string_bytes w) words.now; left = S.left source.old; read_before = S.faults source.old; read_now = S.faults source.new; rig_before = R.faults rig.old; rig_now = R.faults rig.new; back = record { tells = R.tells rig.old; logs = λ m. option_map (λ d. R.D.bytes d) (R.given rig.new m Log) } }) (K.written sink.old) (K.written sink.new) (K.faults sink.old) (K.faults sink.new) result }
 {
-    finish(alloc, words, source, sink)
+    match outcome(alloc, words, source, rig) {
+        Ok(due) => send(sink, due.text.as_slice(), due.status),
+        Err(stop) => send_stop(alloc, sink, stop),
+    }
+}
+
+/// Does all that the program does: reads the script of the source, replays it or prints its definitions, and writes what
+/// is due to the sink. `words` are the words after the program's name. It always returns; all that it has to say goes to
+/// the sink, made whole before its first byte is written. The devices of the group are those of the rig, which is given
+/// them back.
+///
+/// - `ends`: with each status comes its cause, and what was written. Finished and Stuck: the bytes read are a script;
+///   its group ran from new, by the picks of its schedule or of the seed, to a state in which no actor's step moves, and
+///   which keeps all laws; what was written is the report of that state. ReadFault, WriteFault and RigFault come only
+///   where the count of faults of the source, the sink or the rig rose.
+/// - `usage`: where the words ask for nothing, the usage is written, unless memory was wanting or a write failed.
+/// - `ran`: where they ask for a replay and the bytes are a script, it is run to its end, with the same exceptions and
+///   those of reads and of the rig.
+/// - `checked`, `script`: likewise the definitions, and the first fault of bytes that are no script.
+pub fn replay<S: Source, K: Sink, R: Rig>(
+    alloc: Global,
+    words: &[String],
+    source: &mut S,
+    sink: &mut K,
+    rig: &mut R,
+) -> Status
+    ensures ends { Ends (record { words = map (λ w. string_bytes w) words.now; left = S.left source.old; read_before = S.faults source.old; read_now = S.faults source.new; rig_before = R.faults rig.old; rig_now = R.faults rig.new; back = record { tells = R.tells rig.old; logs = λ m. option_map (λ d. R.D.bytes d) (R.given rig.new m Log) } }) (K.written sink.old) (K.written sink.new) (K.faults sink.old) (K.faults sink.new) result }
+    ensures usage { command_of (map (λ w. string_bytes w) words.now) ≡ None → IsUsage result }
+    ensures ran { (seed : Option ℕ) → command_of (map (λ w. string_bytes w) words.now) ≡ Some (commands.Replay seed) → (all : List ℕ) (plan : Plan) →
+        S.left source.old ≡ Some all → IsPlan (take read_limit all) plan → HasRun result }
+    ensures checked { command_of (map (λ w. string_bytes w) words.now) ≡ Some commands.Check → (all : List ℕ) (plan : Plan) →
+        S.left source.old ≡ Some all → IsPlan (take read_limit all) plan → IsUnlessFailed Status.Finished result }
+    ensures script { IsAsked (map (λ w. string_bytes w) words.now) → (all : List ℕ) (fault : ScriptFault) →
+        S.left source.old ≡ Some all → IsFirstFault (take read_limit all) fault → IsUnlessFailed Status.Script result }
+{
+    finish(alloc, words, source, sink, rig)
 }

@@ -1,0 +1,5 @@
+pub mod Paces
+pub mod Quiet
+pub mod Runs
+pub mod Tries
+pub mod Turns

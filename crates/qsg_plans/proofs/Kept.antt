@@ -1,0 +1,244 @@
+-- what is kept of a script as far as it was read, by each statement without a fault
+use Rattle.std.proofs.Common.{◌≡◌, ℕ, ◌+◌, ◌<◌, ◌≤◌, Bool, true, false, List, [], ◌∷◌, ◌++◌, length, drop, Some, None, refl, ap, sym, subst, ◌∙◌, arith}
+use Rattle.std.specs.Prelude.{nat_le, if◌then◌else◌}
+use Rattle.std.specs.List.{AllByRecursion}
+use Rattle.std.specs.Option.{option_or}
+use Rattle.std.proofs.lemmas.Bool.Decides.{nat_tests}
+use Rattle.mqsc_lex.specs.declared.words.Word.{Word}
+use Rattle.mqsc_admin.specs.declared.admins.Admin.{Admin}
+use Rattle.mqsc_admin.specs.declared.admins.Admin.TheVariants as admin
+use Rattle.mqsc_admin.specs.Admins.{admin_of}
+use Rattle.mqsc_define.specs.Definitions.{definition_of}
+use Rattle.qsg_lines.specs.declared.items.Item.{Item}
+use Rattle.qsg_num.specs.declared.seats.StructNo.{StructNo}
+use Rattle.qsg_num.specs.declared.ids.Actor.{Actor}
+use Rattle.qsg_num.specs.declared.ids.Actor.TheVariants.{Task, Operator}
+use Rattle.qsg_objects.specs.declared.directives.Directive.{Directive}
+use Rattle.qsg_objects.specs.declared.plans.MemberDef.{MemberDef}
+use Rattle.qsg_objects.specs.declared.plans.Size.{Size}
+use Rattle.qsg_objects.specs.declared.definitions.Definition.{Definition}
+use Rattle.qsg_objects.specs.Registry.{Registry}
+use Rattle.qsg_objects.proofs.Kept.{all-append, all-imp}
+use Rattle.qsg_directives.specs.Asking.{IsRight}
+use Rattle.qsg_draft.specs.declared.stages.Stage.{Stage}
+use Rattle.qsg_draft.specs.declared.stages.Stage.TheVariants as stage
+use Rattle.qsg_draft.specs.Contents.{Contents, nothing_read}
+use Rattle.qsg_draft.specs.Additions.{with_member, with_definition, with_facility, with_section, with_directive_in}
+use Rattle.qsg_grammar.specs.declared.kinds.Kind.{Kind}
+use Rattle.qsg_grammar.specs.declared.kinds.Kind.TheVariants.{Define, Command, Listed}
+use Rattle.qsg_grammar.specs.declared.kinds.Row.{Row}
+use Rattle.qsg_grammar.specs.declared.kinds.Row.TheVariants as row
+use Rattle.qsg_grammar.specs.declared.faults.Fault.TheVariants.{TooMany}
+use Rattle.qsg_grammar.specs.declared.keywords.Keyword.TheVariants as keyword
+use Rattle.qsg_grammar.specs.Values.{task_of}
+use Rattle.qsg_grammar.specs.Faults.{verb_fault, words_fault, missing_fault, behind, row_fault, kind_fault}
+use Rattle.qsg_statement.specs.Statements.{member_def, facility_size, command_directive, directive_by, statement_of}
+use Rattle.qsg_statement.specs.Taking.{taken}
+use Rattle.qsg_statement.specs.Words.{key_at, text_behind, member_of, structure_of}
+use Rattle.qsg_statement.proofs.Bodies.{neither}
+use Rattle.qsg_script.specs.Script.{Takes, TakesAll}
+use Rattle.qsg_sysplex.specs.Plans.{IsLogSized, AreRight, directives_of}
+use Rattle.qsg_plans.specs.Plans.{HasElements, IsActorOf, IsWorkOf}
+use Rattle.qsg_plans.proofs.Keywords.{log-right, elements-right}
+use Rattle.qsg_plans.proofs.Numbers.{count-most, count-least}
+use Rattle.qsg_plans.proofs.Objects.{AreDefined, defined-keeps}
+use Rattle.qsg_plans.proofs.Sections.{inserted-all, extended-all, inserted-count, extended-count}
+use Rattle.qsg_plans.proofs.Words.{task-within, body-sized}
+
+abbrev pub IsFacilitySized : StructNo × Size → Type 0
+IsFacilitySized f = HasElements f.1
+
+-- what n statements keep of members, objects, facilities and sections
+pub record AreInBounds (n : ℕ) (members : List MemberDef) (objects : Registry) (facilities : List (StructNo × Size)) (sections : List (Actor × List Directive)) : Type 0 where
+  pub few : length members ≤ 8
+  pub logs : AllByRecursion IsLogSized members
+  pub defined : AreDefined objects
+  pub elements : AllByRecursion IsFacilitySized facilities
+  pub actors : AllByRecursion (IsWorkOf (length members)) sections
+  pub right : AllByRecursion AreRight sections
+  pub directives : directives_of sections ≤ n
+
+-- what contents of n statements keep
+abbrev pub IsInBounds : ℕ → Contents → Type 0
+IsInBounds n c = AreInBounds n c.members c.objects c.facilities c.sections
+
+-- One statement more may add nothing.
+more : (n : ℕ) (members : List MemberDef) (objects : Registry) (facilities : List (StructNo × Size)) (sections : List (Actor × List Directive))
+    → AreInBounds n members objects facilities sections → AreInBounds (n + 1) members objects facilities sections
+more n members objects facilities sections kept =
+    record {
+      few = kept.few;
+      logs = kept.logs;
+      defined = kept.defined;
+      elements = kept.elements;
+      actors = kept.actors;
+      right = kept.right;
+      directives = let h = kept.directives in omega (arith, h);
+    }
+
+unchanged : (n : ℕ) (c : Contents) → IsInBounds n c → IsInBounds (n + 1) c
+unchanged n c kept = more n c.members c.objects c.facilities c.sections kept
+
+none-kept : IsInBounds 0 nothing_read
+none-kept = record { few = omega arith; logs = tt; defined = record { numbered = tt; placed = tt }; elements = tt; actors = tt; right = tt; directives = omega arith }
+
+-- MEMBER.
+
+length-push : {X : Type 0} (xs : List X) (x : X) → length (xs ++ x ∷ []) ≡ length xs + 1
+length-push [] x = refl
+length-push (y ∷ ys) x = let h = length-push ys x in omega (arith, h)
+
+fewer-than : (n : ℕ) → (if nat_le 8 n then Some (TooMany 8) else None) ≡ None → n < 8
+fewer-than n e = by (nat_le 8 n) refl e
+  where
+    by : (b : Bool) → nat_le 8 n ≡ b → (if b then Some (TooMany 8) else None) ≡ None → n < 8
+    by true is f = absurd cc
+    by false is f = grind (arith, nat_tests, is)
+
+more-actors : (n m : ℕ) (a : Actor) → n ≤ m → IsActorOf n a → IsActorOf m a
+more-actors n m (Task x t) le is = (omega (arith, le, is.0), is.1)
+more-actors n m Operator le is = tt
+
+log-sized : (c : Contents) (words : List Word) → row_fault c row.Member words ≡ None → IsLogSized (member_def (key_at 1 words) (drop 2 words))
+log-sized c words e =
+    let text = text_behind keyword.Log (drop 2 words) in
+    (count-least 8192 1 8192 text (omega arith) (log-right c words e), count-most 8192 8192 text (omega arith))
+
+member-keeps : (n : ℕ) (c : Contents) (words : List Word) → row_fault c row.Member words ≡ None → IsInBounds n c → IsInBounds (n + 1) (with_member (member_def (key_at 1 words) (drop 2 words)) c)
+member-keeps n c words e kept =
+    let m : MemberDef = member_def (key_at 1 words) (drop 2 words) in
+    let verb = (neither (verb_fault c row.Member) (option_or (words_fault c row.Member [] (behind words)) (missing_fault row.Member (behind words))) e).0 in
+    let room = fewer-than (length c.members) verb in
+    let one = length-push c.members m in
+    record {
+      few = omega (arith, room, one);
+      logs = all-append IsLogSized c.members m kept.logs (log-sized c words e);
+      defined = kept.defined;
+      elements = kept.elements;
+      actors = all-imp (IsWorkOf (length c.members)) (IsWorkOf (length (c.members ++ m ∷ []))) (λ s is. more-actors (length c.members) (length (c.members ++ m ∷ [])) s.0 (omega (arith, one)) is) c.sections kept.actors;
+      right = kept.right;
+      directives = let h = kept.directives in omega (arith, h);
+    }
+
+-- FACILITY.
+
+facility-sized : (c : Contents) (words : List Word) → row_fault c row.Facility words ≡ None → HasElements (facility_size c (key_at 1 words) (drop 2 words))
+facility-sized c words e =
+    let text = text_behind keyword.Elements (drop 2 words) in
+    (count-least 65536 1 1048576 text (omega arith) (elements-right c words e), count-most 65536 1048576 text (omega arith))
+
+facility-keeps : (n : ℕ) (c : Contents) (s : StructNo) (size : Size) → HasElements size → IsInBounds n c → IsInBounds (n + 1) (with_facility s size c)
+facility-keeps n c s size sized kept =
+    record {
+      few = kept.few;
+      logs = kept.logs;
+      defined = kept.defined;
+      elements = all-append IsFacilitySized c.facilities (s, size) kept.elements sized;
+      actors = kept.actors;
+      right = kept.right;
+      directives = let h = kept.directives in omega (arith, h);
+    }
+
+-- TASK and OPERATOR.
+
+section-keeps : (n : ℕ) (c : Contents) (a : Actor) → IsActorOf (length c.members) a → IsInBounds n c → IsInBounds (n + 1) (with_section a c)
+section-keeps n c a is kept =
+    record {
+      few = kept.few;
+      logs = kept.logs;
+      defined = kept.defined;
+      elements = kept.elements;
+      actors = inserted-all (IsWorkOf (length c.members)) a c.sections is kept.actors;
+      right = inserted-all AreRight a c.sections tt kept.right;
+      directives = let h = kept.directives in let same = inserted-count a c.sections in omega (arith, h, same);
+    }
+
+-- A directive.
+
+directive-keeps : (n : ℕ) (c : Contents) (s : Stage) (d : Directive) → IsRight d → IsInBounds n c → IsInBounds (n + 1) (with_directive_in s d c)
+directive-keeps n c stage.Start d is kept = unchanged n c kept
+directive-keeps n c stage.Definitions d is kept = unchanged n c kept
+directive-keeps n c (stage.Section a) d is kept =
+    record {
+      few = kept.few;
+      logs = kept.logs;
+      defined = kept.defined;
+      elements = kept.elements;
+      actors = extended-all (IsWorkOf (length c.members)) a d c.sections (λ s h. h) kept.actors;
+      right = extended-all AreRight a d c.sections (λ s h. all-append IsRight s.1 d h is) kept.right;
+      directives = let h = kept.directives in let one = extended-count a d c.sections in omega (arith, h, one);
+    }
+directive-keeps n c stage.Schedule d is kept = unchanged n c kept
+directive-keeps n c stage.Ended d is kept = unchanged n c kept
+
+command-right : (c : Contents) (a : Admin) → IsRight (command_directive c a)
+command-right c (admin.Backup structure) = tt
+command-right c (admin.Recover structure kind) = tt
+command-right c (admin.ResetSmds member structure wanted) = tt
+command-right c (admin.DisplayCfstatus structure) = tt
+command-right c (admin.DisplayQueue queue) = tt
+command-right c (admin.DisplaySmds structure) = tt
+
+put-right : (c : Contents) (words : List Word) → IsRight (directive_by c row.Put words)
+put-right c words = body-sized (text_behind keyword.Body (drop 2 words)) (text_behind keyword.Hex (drop 2 words)) (text_behind keyword.Size (drop 2 words))
+
+-- DEFINE.
+
+definition-keeps : (n : ℕ) (c : Contents) (d : Definition) → IsInBounds n c → IsInBounds (n + 1) (with_definition d c)
+definition-keeps n c d kept =
+    record {
+      few = kept.few;
+      logs = kept.logs;
+      defined = defined-keeps d c.objects kept.defined;
+      elements = kept.elements;
+      actors = kept.actors;
+      right = kept.right;
+      directives = let h = kept.directives in omega (arith, h);
+    }
+
+-- Each statement without a fault.
+
+row-keeps : (n : ℕ) (c : Contents) (r : Row) (words : List Word) → row_fault c r words ≡ None → IsInBounds n c → IsInBounds (n + 1) (taken (statement_of c (Listed r) words) c)
+row-keeps n c row.Group words right kept = unchanged n c kept
+row-keeps n c row.Member words right kept = member-keeps n c words right kept
+row-keeps n c row.Facility words right kept =
+    facility-keeps n c (structure_of (key_at 1 words) c) (facility_size c (key_at 1 words) (drop 2 words)) (facility-sized c words right) kept
+row-keeps n c row.Task words right kept = section-keeps n c (Task (member_of (key_at 1 words) c) (task_of (key_at 2 words))) (task-within c words right) kept
+row-keeps n c row.Operator words right kept = section-keeps n c Operator tt kept
+row-keeps n c row.Put words right kept = directive-keeps n c c.stage (directive_by c row.Put words) (put-right c words) kept
+row-keeps n c row.Get words right kept = directive-keeps n c c.stage (directive_by c row.Get words) tt kept
+row-keeps n c row.Commit words right kept = directive-keeps n c c.stage (directive_by c row.Commit words) tt kept
+row-keeps n c row.Backout words right kept = directive-keeps n c c.stage (directive_by c row.Backout words) tt kept
+row-keeps n c row.WaitTask words right kept = directive-keeps n c c.stage (directive_by c row.WaitTask words) tt kept
+row-keeps n c row.WaitOperator words right kept = directive-keeps n c c.stage (directive_by c row.WaitOperator words) tt kept
+row-keeps n c row.Crash words right kept = directive-keeps n c c.stage (directive_by c row.Crash words) tt kept
+row-keeps n c row.Start words right kept = directive-keeps n c c.stage (directive_by c row.Start words) tt kept
+row-keeps n c row.Stop words right kept = directive-keeps n c c.stage (directive_by c row.Stop words) tt kept
+row-keeps n c row.Lose words right kept = directive-keeps n c c.stage (directive_by c row.Lose words) tt kept
+row-keeps n c row.Schedule words right kept = unchanged n c kept
+row-keeps n c row.TurnTask words right kept = unchanged n c kept
+row-keeps n c row.TurnOperator words right kept = unchanged n c kept
+row-keeps n c row.End words right kept = unchanged n c kept
+
+kind-keeps : (n : ℕ) (c : Contents) (kind : Kind) (words : List Word) → kind_fault c kind words ≡ None → IsInBounds n c → IsInBounds (n + 1) (taken (statement_of c kind words) c)
+kind-keeps n c Define words right kept = definition-keeps n c (definition_of words) kept
+kind-keeps n c Command words right kept = directive-keeps n c c.stage (command_directive c (admin_of words)) (command-right c (admin_of words)) kept
+kind-keeps n c (Listed r) words right kept = row-keeps n c r words right kept
+
+item-keeps : (n : ℕ) (c next : Contents) (item : Item) → Takes c item next → IsInBounds n c → IsInBounds (n + 1) next
+item-keeps n c next item t kept =
+    let m = t.reads.means in
+    let e : next ≡ taken (statement_of c m.kind t.reads.words) c = t.leads ∙ ap (λ s. taken s c) m.means in
+    subst (λ (x : Contents). IsInBounds (n + 1) x) (sym e) (kind-keeps n c m.kind t.reads.words m.right kept)
+
+items-keep : (items : List Item) (n : ℕ) (c last : Contents) → TakesAll c items last → IsInBounds n c → IsInBounds (n + length items) last
+items-keep [] n c last e kept = let same : n ≡ n + 0 = omega arith in subst (λ (k : ℕ). IsInBounds k last) same (subst (λ (x : Contents). IsInBounds n x) e kept)
+items-keep (item ∷ items) n c last t kept =
+    let same : n + 1 + length items ≡ n + length (item ∷ items) = omega arith in
+    subst (λ (k : ℕ). IsInBounds k last) same (items-keep items (n + 1) t.0 last t.2 (item-keeps n c t.0 item t.1 kept))
+
+-- A script as far as it was read keeps its bounds, with at most one directive an item.
+pub script-in-bounds : (items : List Item) (last : Contents) → TakesAll nothing_read items last → IsInBounds (length items) last
+script-in-bounds items last t =
+    let same : 0 + length items ≡ length items = omega arith in
+    subst (λ (k : ℕ). IsInBounds k last) same (items-keep items 0 nothing_read last t none-kept)

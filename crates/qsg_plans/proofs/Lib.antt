@@ -1,0 +1,9 @@
+pub mod Lines
+pub mod Numbers
+pub mod Keywords
+pub mod Words
+pub mod Objects
+pub mod Sections
+pub mod Order
+pub mod Kept
+pub mod Plans

@@ -1,5 +1,0 @@
-use Rattle.qsg_run.proofs.OneReading.{one_script}
-use Rattle.qsg_run.proofs.laws.one_script.Goals as goal
-
-pub returns : goal.returns
-returns c = one_script

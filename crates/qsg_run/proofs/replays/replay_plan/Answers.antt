@@ -1,0 +1,28 @@
+use Rattle.std.proofs.Common.{◌≡◌, List, ap, subst, ◌∙◌}
+use Rattle.qsg_num.specs.declared.ids.Actor.{Actor}
+use Rattle.qsg_disk.specs.declared.kinds.Kind.TheVariants.{Log}
+use Rattle.qsg_schedule.specs.Course.{Course}
+use Rattle.qsg_sysplex.specs.Actors.{actors_of}
+use Rattle.qsg_drive.specs.Runs.{IsRun}
+use Rattle.qsg_run.specs.Replays.{IsReported, course_for}
+use Rattle.qsg_run.proofs.Back.{told}
+use Rattle.qsg_run.proofs.replays.replay_plan.Goals as goal
+
+pub returns-clause-due : goal.returns-clause-due
+returns-clause-due g c =
+    let plan = c.args.plan in
+    let after = c.run_out-due.new.group.sysplex in
+    let path = c.in_ok-due.ensures.ran.0 in
+    let chosen : c.as_slice.result.now ≡ actors_of plan = c.as_slice.ensures ∙ c.in_ok-actors.ensures in
+    let stepped : c.as_slice-2.result.now ≡ actors_of plan = c.as_slice-2.ensures ∙ c.in_ok-actors.ensures in
+    let picks : c.in_ok-chooser.chooser ≡ course_for c.args.seed plan.schedule (actors_of plan) = c.in_ok-chooser.ensures ∙ ap (course_for c.args.seed plan.schedule) chosen in
+    record {
+      before = c.in-Ok.sysplex;
+      path = path;
+      after = after;
+      made = c.in-Ok.ensures.made;
+      run = subst (λ (actors : List Actor). IsRun actors (course_for c.args.seed plan.schedule (actors_of plan)) c.in-Ok.sysplex path after) stepped
+          (subst (λ (course : Course). IsRun c.as_slice-2.result.now course c.in-Ok.sysplex path after) picks c.in_ok-due.ensures.ran.1);
+      devices = λ tells m within. told g.R.D.Disk.bytes _ (g.R.Rig.given c.close.new.rig m Log) (c.close.ensures.given (c.in-Ok.ensures.told ∙ tells) m within);
+      reported = subst (λ (actors : List Actor). IsReported actors after c.in_ok-due.field-0.status c.in_ok-due.field-0.text) stepped c.in_ok-due.ensures.report;
+    }

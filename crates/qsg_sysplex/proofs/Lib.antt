@@ -1,0 +1,12 @@
+pub mod InHand
+pub mod Waits
+pub mod Settling
+pub mod Directing
+pub mod NewLogs
+pub mod NewRepo
+pub mod NewStructures
+pub mod NewCourses
+pub mod Making
+pub mod Worked
+pub mod Flat
+pub mod GivenBack

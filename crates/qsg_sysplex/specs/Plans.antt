@@ -1,0 +1,35 @@
+-- the plans that a group can work
+use Rattle.std.specs.Prelude.{ℕ, ◌≡◌, ◌<◌, ◌≤◌, ◌^◌, List, length, sum_by}
+use Rattle.std.specs.List.{AllByRecursion}
+use Rattle.qsg_num.specs.declared.ids.Actor.{Actor}
+use Rattle.qsg_num.specs.Seats.{structure_number}
+use Rattle.qsg_objects.specs.declared.directives.Directive.{Directive}
+use Rattle.qsg_objects.specs.declared.plans.MemberDef.{MemberDef}
+use Rattle.qsg_objects.specs.declared.plans.Plan.{Plan}
+use Rattle.qsg_objects.specs.declared.registry.Queue.{Queue}
+use Rattle.qsg_directives.specs.Asking.{IsRight}
+
+-- a log has some pages, and at most 8,192
+abbrev pub IsLogSized : MemberDef → Type 0
+IsLogSized m = (0 < m.log_pages) × (m.log_pages ≤ 8192)
+
+-- a queue is on one of so many structures
+abbrev pub IsOnOneOf : ℕ → Queue → Type 0
+IsOnOneOf structures queue = structure_number queue.structure ≤ structures
+
+-- bodies that are given by their size are at most the longest one
+abbrev pub AreRight : Actor × List Directive → Type 0
+AreRight work = AllByRecursion IsRight work.1
+
+-- how many directives there are in all
+abbrev pub directives_of : List (Actor × List Directive) → ℕ
+directives_of works = sum_by (λ (work : Actor × List Directive). length work.1) works
+
+-- a plan that a group can work
+pub record IsWorkable (plan : Plan) : Type 0 where
+  pub few : length plan.members ≤ 8
+  pub logs : AllByRecursion IsLogSized plan.members
+  pub sizes : length plan.sizes ≡ length plan.objects.structures
+  pub queues : AllByRecursion (IsOnOneOf (length plan.objects.structures)) plan.objects.queues
+  pub right : AllByRecursion AreRight plan.works
+  pub directives : directives_of plan.works < 2 ^ 30

@@ -1,0 +1,242 @@
+//! The group, which keeps its laws.
+
+ghost use Rattle.std.specs.Prelude.{◌≡◌, ◌<◌, ◌≤◌, true, length, IfOk, OnErr, IsOk, IsErrOf, IsSome, IsSomeAnd};
+ghost use Rattle.qsg_agenda.specs.Courses.{answers_of};
+
+use crate::devices::{MakeFault, give_back, new_logs};
+use crate::starting::{new_managers, new_repo, new_structures};
+use crate::stepping::logs_are_kept;
+use crate::working::Working;
+use qsg_agenda::Agenda;
+use qsg_disk::{Disk, Rig};
+use qsg_lists::{Entry, State};
+use qsg_model::History;
+use qsg_num::{Actor, Member, StructNo};
+use qsg_objects::{MemberDefs, Plan, Sizes};
+use qsg_parts::Parts;
+use qsg_requests::{Answer, Cause};
+use qsg_step::Step;
+use qsg_works::Works;
+use std::alloc::{AllocError, Global};
+use std::marker::Model;
+
+/// A group of queue managers that works its plan. Only `make` makes one, and only `step` changes it.
+#[derive(Drop)]
+pub struct Sysplex<D: Disk> {
+    working: Working<D>,
+}
+
+impl<D: Disk> Model for Sysplex<D> {
+    ghost use Rattle.qsg_step.specs.States.{State};
+    ghost use Rattle.qsg_sysplex.specs.Kept.{IsKept};
+    ghost use Rattle.qsg_sysplex.specs.Views.{state_of};
+
+    ghost Value = { State };
+
+    ghost view = { λ s. state_of s.working };
+
+    ghost invariant = { λ s. IsKept (state_of s.working) };
+}
+
+impl<D: Disk + Drop> Sysplex<D> {
+    ghost use Rattle.qsg_num.specs.declared.seats.Member.{Member};
+    ghost use Rattle.qsg_num.specs.Faults.{Rose};
+    ghost use Rattle.qsg_disk.specs.declared.kinds.Kind.{Kind};
+    ghost use Rattle.qsg_disk.specs.declared.kinds.Kind.TheVariants.{Log};
+    ghost use Rattle.qsg_num.specs.Seats.{member_number};
+    ghost use Rattle.qsg_logs.specs.Kept.{log_in};
+    ghost use Rattle.qsg_parts.specs.Owned.{owned};
+    ghost use Rattle.qsg_lists.specs.Entries.{used_of};
+    ghost use Rattle.qsg_manager.specs.Facilities.{structure_in};
+    ghost use Rattle.qsg_step.specs.States.{is_member_up};
+    ghost use Rattle.qsg_step.specs.Steps.{IsStep, IsUnmade};
+    ghost use Rattle.qsg_sysplex.specs.declared.devices.MakeFault.TheVariants as fault;
+    ghost use Rattle.qsg_sysplex.specs.Ends.{wait_of, is_finished, is_stuck};
+    ghost use Rattle.qsg_sysplex.specs.Hands.{needs_no_memory};
+    ghost use Rattle.qsg_sysplex.specs.Kept.{IsKept};
+    ghost use Rattle.qsg_sysplex.specs.Plans.{IsWorkable};
+    ghost use Rattle.qsg_sysplex.specs.Starting.{IsMade};
+
+    /// The group of a plan: all its members are up in their first incarnation, on new devices of a rig, and its
+    /// structures are active and empty. The plan's schedule isn't looked at. Where it fails, all devices that were made
+    /// are given back.
+    pub fn make<R: Rig<D = D>>(
+        alloc: Global,
+        plan: Plan,
+        rig: &mut R,
+    ) -> Result<Sysplex<D>, MakeFault>
+        requires plan { IsWorkable plan }
+        ensures made { IfOk result (λ s. IsMade plan s) }
+        ensures back { R.tells rig.old ≡ true → (m : Member) (k : Kind) → IsErrOf result (fault.Rig m k) → (n : Member) → member_number n < member_number m → IsSome (R.given rig.new n Log) }
+        ensures cause { (m : Member) (k : Kind) → IsErrOf result (fault.Rig m k) → Rose (R.faults rig.old) (R.faults rig.new) }
+        ensures later { R.faults rig.old ≤ R.faults rig.new }
+        ensures told { R.tells rig.new ≡ R.tells rig.old }
+    {
+        let Plan {
+            group,
+            members,
+            sizes,
+            objects,
+            works,
+            ..
+        } = plan;
+        let structures = new_structures(alloc, sizes.as_slice())?;
+        let managers = new_managers(alloc, members.len())?;
+        let repo = new_repo(alloc, members.len(), &objects, works.as_slice())?;
+        let agenda = Agenda::new(alloc, works)?;
+        let hands = Works::new(alloc)?;
+        let logs = new_logs(alloc, rig, members.as_slice())?;
+        logs_are_kept(&logs);
+        Ok(Sysplex {
+            working: Working {
+                parts: Parts {
+                    structures,
+                    managers,
+                    logs,
+                    repo,
+                    objects,
+                    history: History::new(alloc),
+                },
+                agenda,
+                works: hands,
+                failed: [false; 8],
+                group,
+                members,
+                sizes,
+            },
+        })
+    }
+
+    /// What every group keeps between any two steps.
+    pub fn kept(&self)
+        ensures { IsKept self.now }
+    {
+        let _working = &self.working;
+    }
+
+    /// Makes the next step of an actor. Only want of memory is an error; then nothing changed but that the history may
+    /// have more room. A step that goes on with a COMMIT or BACKOUT, and one of the operator, never wants memory.
+    pub fn step(&mut self, alloc: Global, actor: Actor) -> Result<Step, AllocError>
+        ensures next { IfOk result (λ step. IsStep actor self.old step self.new) }
+        ensures unmade { OnErr result (IsUnmade self.old self.new) }
+        ensures settles { needs_no_memory actor self.old ≡ true → IsOk result }
+    {
+        self.working.step(alloc, actor)
+    }
+
+    /// Whether every directive is answered. Takes no memory.
+    pub fn finished(&self) -> bool
+        ensures { result ≡ is_finished self.now }
+    {
+        self.working.is_finished()
+    }
+
+    /// Whether directives are left, and each actor that has one left waits. Takes no memory.
+    pub fn stuck(&self) -> bool
+        ensures { result ≡ is_stuck self.now }
+    {
+        self.working.is_stuck()
+    }
+
+    /// Why an actor with a directive left waits; None where it has none left, or doesn't wait.
+    pub fn cause(&self, actor: Actor) -> Option<Cause>
+        ensures { result ≡ wait_of actor self.now }
+    {
+        self.working.wait(actor)
+    }
+
+    /// What its actors have still to do, and what they answered.
+    pub fn agenda(&self) -> &Agenda
+        ensures { result.now ≡ self.now.courses }
+    {
+        &self.working.agenda
+    }
+
+    /// The answers of an actor so far, one for each of its first directives.
+    pub fn transcript(&self, actor: Actor) -> &[Answer]
+        ensures { result.now ≡ answers_of actor self.now.courses }
+    {
+        self.working.agenda.transcript(actor)
+    }
+
+    /// What it owns: its structures, members, logs, repository, objects and history.
+    pub fn parts(&self) -> &Parts<D>
+        ensures { owned result.now ≡ self.now.parts }
+    {
+        &self.working.parts
+    }
+
+    /// Whether a member makes steps: it is up, and no write or sync of its log failed.
+    pub fn is_up(&self, member: Member) -> bool
+        ensures { result ≡ is_member_up member self.now }
+    {
+        self.working.is_member_up(member)
+    }
+
+    /// The state and the epoch of a structure; those of a new one where the group has none of that number.
+    pub fn state(&self, number: StructNo) -> (State, u32)
+        ensures { result ≡ ((structure_in number self.now.parts.structures).state, (structure_in number self.now.parts.structures).epoch) }
+    {
+        if number.index() < self.working.parts.structures.len() {
+            return self.working.parts.structures.structure(number).state();
+        }
+        (State::Active, 0)
+    }
+
+    /// The elements in use of a structure, and those in all.
+    pub fn size(&self, number: StructNo) -> (u32, u32)
+        ensures { result ≡ (used_of (structure_in number self.now.parts.structures).entries, (structure_in number self.now.parts.structures).capacity) }
+    {
+        if number.index() < self.working.parts.structures.len() {
+            return self.working.parts.structures.structure(number).size();
+        }
+        (0, 0)
+    }
+
+    /// The entries of a structure, in order of their ids.
+    pub fn entries(&self, number: StructNo) -> &[Entry]
+        ensures { result.now ≡ (structure_in number self.now.parts.structures).entries }
+    {
+        if number.index() < self.working.parts.structures.len() {
+            return self.working.parts.structures.structure(number).entries();
+        }
+        &[]
+    }
+
+    /// What happened so far.
+    pub fn history(&self) -> &History
+        ensures { result.now ≡ self.now.parts.history }
+    {
+        &self.working.parts.history
+    }
+
+    /// Its name.
+    pub fn group(&self) -> &str
+        ensures { result.now ≡ self.now.group }
+    {
+        self.working.group.as_str()
+    }
+
+    /// Its members, as the plan has them.
+    pub fn members(&self) -> &MemberDefs
+        ensures { result.now ≡ self.now.members }
+    {
+        &self.working.members
+    }
+
+    /// The sizes of its structures, as the plan has them.
+    pub fn sizes(&self) -> &Sizes
+        ensures { result.now ≡ self.now.sizes }
+    {
+        &self.working.sizes
+    }
+
+    /// Gives the device of each member's log back to a rig. Takes no memory.
+    pub fn close<R: Rig<D = D>>(self, rig: &mut R)
+        ensures given { R.tells rig.old ≡ true → (m : Member) → member_number m ≤ length self.parts.logs → IsSomeAnd (R.given rig.new m Log) (λ d. D.bytes d ≡ (log_in m self.parts.logs).bytes) }
+        ensures later { R.faults rig.old ≤ R.faults rig.new }
+        ensures told { R.tells rig.new ≡ R.tells rig.old }
+    {
+        give_back(rig, self.working.parts.logs);
+    }
+}

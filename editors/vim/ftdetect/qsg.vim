@@ -1,0 +1,1 @@
+autocmd BufNewFile,BufRead *.qsg setfiletype qsg
