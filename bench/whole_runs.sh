@@ -4,8 +4,9 @@
 # the bytes of the report and the seconds, and both as ratios to the row above it, which has half as many puts.
 #
 # Reading and reporting take time linear in the bytes. What isn't linear is the list structure, which is a plain list: a
-# put counts the entries of its structure, and a get looks through them, so n puts and n gets take time by n * n, and the
-# ratio of the seconds comes near 4 once these scans outweigh the rest.
+# put counts the entries of its structure, and a get looks through them, so n puts and n gets take time by n * n: the
+# ratio of the seconds comes to 4 once these scans outweigh the rest, and above it where the entries no longer fit the
+# processor's caches.
 #
 # Sizes may be given as words, as bench/whole_runs.sh 10000 20000 40000; the default is smaller.
 set -eu
