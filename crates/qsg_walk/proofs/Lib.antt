@@ -1,0 +1,4 @@
+pub mod Feeding
+pub mod Gates
+pub mod Reading
+pub mod Walking
