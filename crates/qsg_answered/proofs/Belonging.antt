@@ -35,6 +35,7 @@ use Rattle.qsg_group.specs.declared.tasks.Task.{Task}
 use Rattle.qsg_works.specs.declared.work.Work.{Work}
 use Rattle.qsg_works.specs.declared.work.Work.TheVariants.{Put, Get, Commit}
 use Rattle.qsg_works.specs.InHand.{place, work_of}
+use Rattle.qsg_steady.specs.Steady.{IsLawful}
 use Rattle.qsg_step.specs.States.{State}
 use Rattle.qsg_sound.specs.Sound.{IsSound}
 use Rattle.qsg_answered.specs.Belonging.{WasAnswered, IsBeingAnswered, Belongs}
@@ -67,8 +68,8 @@ same_ops (i ∷ h) u ops others differ c d = by (head_or_tail i (UnitOf u ops) h
     by (inr one) (inl two) rest = absurd (clash i h u others ops differ two one)
     by (inr one) (inr two) rest = rest one two
 
-differing : (s : State) → IsSound s → AllDiffer (names s.parts.history.items)
-differing s sound = subst (λ h. AllDiffer (names h)) sound.steady.mirrored.history sound.steady.laws.legal.names_differ
+differing : (s : State) → IsLawful s.parts → AllDiffer (names s.parts.history.items)
+differing s l = subst (λ h. AllDiffer (names h)) l.mirrored.history l.laws.legal.names_differ
 
 -- ---- an answer that names the unit
 
@@ -125,8 +126,8 @@ asked_ops : (objects : Registry) (h : List Item) (u : UnitName) (ops given : Lis
 asked_ops objects h u ops given d a None differ there names ends = absurd (true≢false (sym names))
 asked_ops objects h u ops given d a (Some asked) differ there names ends = named_ops objects h u ops given a.at asked a.reply differ there names ends
 
-was_answered : (s : State) (u : UnitName) (ops : List (StructNo × Op)) → IsSound s → AreFitting s → Contains s.parts.history.items (UnitOf u ops) → 0 < sum_by (commits_in u) s.courses → WasAnswered u ops s
-was_answered s u ops sound fits there some =
+was_answered : (s : State) (u : UnitName) (ops : List (StructNo × Op)) → IsSound s → IsLawful s.parts → AreFitting s → Contains s.parts.history.items (UnitOf u ops) → 0 < sum_by (commits_in u) s.courses → WasAnswered u ops s
+was_answered s u ops sound l fits there some =
     let objects = s.parts.objects in
     let h = s.parts.history.items in
     let found = positive_at (commits_in u) s.courses some in
@@ -143,7 +144,7 @@ was_answered s u ops sound fits there some =
       behind = split.behind;
       told_is = split.is;
       names = split.passes;
-      pending = asked_ops objects h u ops (fold (with_answered objects c.actor) [] split.before) split.here.0 split.here.1 (requested c.actor split.here.0) (differing s sound) there split.passes ends;
+      pending = asked_ops objects h u ops (fold (with_answered objects c.actor) [] split.before) split.here.0 split.here.1 (requested c.actor split.here.0) (differing s l) there split.passes ends;
     }
 
 -- ---- a COMMIT in hand
@@ -204,8 +205,8 @@ hand_ops objects h task u ops given (Some (Put w)) differ there names held = abs
 hand_ops objects h task u ops given (Some (Get w)) differ there names held = absurd (true≢false (sym names))
 hand_ops objects h task u ops given (Some (Commit w)) differ there names held = end_ops h task u ops given w.phase differ there names held
 
-is_in_hand : (s : State) (u : UnitName) (ops : List (StructNo × Op)) → IsSound s → AreFitting s → Contains s.parts.history.items (UnitOf u ops) → 0 < count_by (commits_now u) s.works → IsBeingAnswered u ops s
-is_in_hand s u ops sound fits there some =
+is_in_hand : (s : State) (u : UnitName) (ops : List (StructNo × Op)) → IsSound s → IsLawful s.parts → AreFitting s → Contains s.parts.history.items (UnitOf u ops) → 0 < count_by (commits_now u) s.works → IsBeingAnswered u ops s
+is_in_hand s u ops sound l fits there some =
     let found = hand_at (commits_now u) s.works some in
     let at = task_of_place found.0 (omega (arith, found.1, sound.forty)) in
     let now : commits_now u (work_of at.0 at.1 s.works) ≡ true = ap (λ (i : ℕ). commits_now u (get_or s.works i None)) at.2 ∙ found.2 in
@@ -213,14 +214,14 @@ is_in_hand s u ops sound fits there some =
       member = at.0;
       task = at.1;
       commits = now;
-      pending = hand_ops s.parts.objects s.parts.history.items (task_at at.0 at.1 s.parts.managers) u ops (pending_of s.parts.objects at.0 at.1 s.courses) (work_of at.0 at.1 s.works) (differing s sound) there now (fits.tasks at.0 at.1);
+      pending = hand_ops s.parts.objects s.parts.history.items (task_at at.0 at.1 s.parts.managers) u ops (pending_of s.parts.objects at.0 at.1 s.courses) (work_of at.0 at.1 s.works) (differing s l) there now (fits.tasks at.0 at.1);
     }
 
 -- ---- the COMMIT of a unit
 
-pub belongs : (s : State) (u : UnitName) (ops : List (StructNo × Op)) → IsSound s → AreFitting s → Contains s.parts.history.items (UnitOf u ops) → Belongs u ops s
-belongs s u ops sound fits there = by (sum_by (commits_in u) s.courses) refl
+pub belongs : (s : State) (u : UnitName) (ops : List (StructNo × Op)) → IsSound s → IsLawful s.parts → AreFitting s → Contains s.parts.history.items (UnitOf u ops) → Belongs u ops s
+belongs s u ops sound l fits there = by (sum_by (commits_in u) s.courses) refl
   where
     by : (n : ℕ) → sum_by (commits_in u) s.courses ≡ n → Belongs u ops s
-    by zero is = inr (is_in_hand s u ops sound fits there (let one = one_commit s u ops sound fits there in omega (arith, one, is)))
-    by (suc n) is = inl (was_answered s u ops sound fits there (omega (arith, is)))
+    by zero is = inr (is_in_hand s u ops sound l fits there (let one = one_commit s u ops sound l fits there in omega (arith, one, is)))
+    by (suc n) is = inl (was_answered s u ops sound l fits there (omega (arith, is)))

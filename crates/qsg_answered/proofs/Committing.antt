@@ -29,7 +29,7 @@ use Rattle.qsg_manager.specs.Storage.{manager_in, task_at}
 use Rattle.qsg_manager.specs.Units.{decided, safe_stage}
 use Rattle.qsg_logs.specs.Kept.{log_in}
 use Rattle.qsg_parts.specs.Owned.{Owned, HasMember}
-use Rattle.qsg_steady.specs.Steady.{IsSteady}
+use Rattle.qsg_steady.specs.Steady.{IsLawful, IsSteady}
 use Rattle.qsg_steady.proofs.Acting.{member_five}
 use Rattle.qsg_commit.specs.declared.phases.Phase.{Phase}
 use Rattle.qsg_commit.specs.declared.phases.Phase.TheVariants.{Latch, Pages, Settle}
@@ -160,9 +160,9 @@ named_more u v h ops =
     plus_none n = omega arith
 
 -- a unit whose run is being written isn't in the history
-not_yet : (a b : ℕ) (t : TaskNo) (u : UnitName) (p : Owned) → IsSteady a b p → IsHardening u (task_at u.member t p.managers) → is_unit u p.history.items ≡ false
-not_yet a b t u p s hard =
-    ap (is_unit u) (sym s.mirrored.history) ∙ (s.laws.in_hand u t (ap (λ (z : Task). z.unit) hard.is)).in_history ∙ ap (λ (z : Task). is_hardened z.stage) hard.is
+not_yet : (t : TaskNo) (u : UnitName) (p : Owned) → IsLawful p → IsHardening u (task_at u.member t p.managers) → is_unit u p.history.items ≡ false
+not_yet t u p l hard =
+    ap (is_unit u) (sym l.mirrored.history) ∙ (l.laws.in_hand u t (ap (λ (z : Task). z.unit) hard.is)).in_history ∙ ap (λ (z : Task). is_hardened z.stage) hard.is
 
 -- the claims of a unit are those of its operations
 keys_matched : (h : List Item) (ops : List (StructNo × Op)) (claims : List Claim) → AreMatched h ops claims → keys_claimed claims ≡ map key_of_op ops
@@ -171,21 +171,21 @@ keys_matched h [] (c ∷ claims) are = absurd are
 keys_matched h (w ∷ ops) [] are = absurd are
 keys_matched h (w ∷ ops) (c ∷ claims) are = λ i. are.0 i ∷ keys_matched h ops claims are.2 i
 
-claims_match : (a b : ℕ) (t : TaskNo) (u : UnitName) (p : Owned) → IsSteady a b p → IsHardening u (task_at u.member t p.managers) → AreMatched p.history.items (task_at u.member t p.managers).ops (task_at u.member t p.managers).claims
-claims_match a b t u p s hard =
-    subst (λ h. AreMatched h (task_at u.member t p.managers).ops (task_at u.member t p.managers).claims) s.mirrored.history
-    (s.laws.ready u t (ap (λ (z : Task). z.unit) hard.is) (ap (λ (z : Task). is_undecided z.stage) hard.is)).matched
+claims_match : (t : TaskNo) (u : UnitName) (p : Owned) → IsLawful p → IsHardening u (task_at u.member t p.managers) → AreMatched p.history.items (task_at u.member t p.managers).ops (task_at u.member t p.managers).claims
+claims_match t u p l hard =
+    subst (λ h. AreMatched h (task_at u.member t p.managers).ops (task_at u.member t p.managers).claims) l.mirrored.history
+    (l.laws.ready u t (ap (λ (z : Task). z.unit) hard.is) (ap (λ (z : Task). is_undecided z.stage) hard.is)).matched
 
-page_by : (a b : ℕ) (t : TaskNo) (ops : List (StructNo × Op)) (p q : Owned) (u : UnitName) (count : ℕ) (done : Bool) → IsSteady a b p → HasMember u.member p → IsHardening u (task_at u.member t p.managers) → (task_at u.member t p.managers).ops ≡ ops → IsCountOf ops count
+page_by : (a b : ℕ) (t : TaskNo) (ops : List (StructNo × Op)) (p q : Owned) (u : UnitName) (count : ℕ) (done : Bool) → IsSteady a b p → IsLawful p → HasMember u.member p → IsHardening u (task_at u.member t p.managers) → (task_at u.member t p.managers).ops ≡ ops → IsCountOf ops count
     → IsPageStep u t done p q → EndMoves u.member t ops (Pages u count) p More (after_page done u count) q
-page_by a b t ops p q u count false s has hard held counted step =
+page_by a b t ops p q u count false s l has hard held counted step =
     subst (λ x. EndMoves u.member t ops (Pages u count) p More (Pages u count) x) (sym step.made) (record {
       move = record { objects = refl; lives = refl; frame = frame_same u.member t p.managers; inside = λ each. each };
       history = inl refl;
       holds = (held, counted);
       counts = λ v. refl;
     })
-page_by a b t ops p q u count true s has hard held counted step =
+page_by a b t ops p q u count true s l has hard held counted step =
     let m = u.member in
     let task = task_at m t p.managers in
     let y = decided (safe_stage task.stage) task in
@@ -193,20 +193,20 @@ page_by a b t ops p q u count true s has hard held counted step =
     let unit = ap (λ (z : Task). z.unit) hard.is in
     subst (λ x. EndMoves m t ops (Pages u count) p More (Settle u count) x) (sym step.made.parts) (record {
       move = record { objects = refl; lives = refl; frame = frame_stored m t y p.managers has.manager five (λ v holds. holds); inside = λ each. each };
-      history = inr (record { unit = u; ops = task.ops; holds = unit; new = not_yet a b t u p s hard; items = refl });
+      history = inr (record { unit = u; ops = task.ops; holds = unit; new = not_yet t u p l hard; items = refl });
       holds = record {
         committed = record {
           there = subst (λ l. Contains (p.history.items ++ UnitOf u l ∷ []) (UnitOf u ops)) (sym held) (Contains-append_right p.history.items (UnitOf u ops ∷ []) (UnitOf u ops) (at_head (UnitOf u ops) []));
           counted = counted;
         };
-        claims = ap (λ (z : Task). keys_claimed z.claims) (task_stored m t y p.managers has.manager five) ∙ keys_matched p.history.items task.ops task.claims (claims_match a b t u p s hard) ∙ ap (map key_of_op) held;
+        claims = ap (λ (z : Task). keys_claimed z.claims) (task_stored m t y p.managers has.manager five) ∙ keys_matched p.history.items task.ops task.claims (claims_match t u p l hard) ∙ ap (map key_of_op) held;
       };
       counts = λ v. let h = named_more v u p.history.items task.ops in omega (arith, h);
     })
 
-pub page_moves : (a b : ℕ) (m : Member) (t : TaskNo) (ops : List (StructNo × Op)) (p q : Owned) (u : UnitName) (count : ℕ) (turn : Turn) (phase : Phase) → IsSteady a b p → HasMember m p → u.member ≡ m → IsHardening u (task_at m t p.managers)
+pub page_moves : (a b : ℕ) (m : Member) (t : TaskNo) (ops : List (StructNo × Op)) (p q : Owned) (u : UnitName) (count : ℕ) (turn : Turn) (phase : Phase) → IsSteady a b p → IsLawful p → HasMember m p → u.member ≡ m → IsHardening u (task_at m t p.managers)
     → (task_at m t p.managers).ops ≡ ops → IsCountOf ops count → PageStep t u count p turn phase q → EndMoves m t ops (Pages u count) p turn phase q
-page_moves a b m t ops p q u count turn phase s has own hard held counted step =
+page_moves a b m t ops p q u count turn phase s l has own hard held counted step =
     end_moved m t ops (Pages u count) p turn More phase (after_page step.0 u count) q q step.1 step.2 refl
     (subst (λ (k : Member). HasMember k p → IsHardening u (task_at k t p.managers) → (task_at k t p.managers).ops ≡ ops → EndMoves k t ops (Pages u count) p More (after_page step.0 u count) q) own
-    (λ there h o. page_by a b t ops p q u count step.0 s there h o counted step.3) has hard held)
+    (λ there h o. page_by a b t ops p q u count step.0 s l there h o counted step.3) has hard held)

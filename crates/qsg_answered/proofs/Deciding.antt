@@ -32,6 +32,7 @@ use Rattle.qsg_works.specs.declared.work.Work.{Work}
 use Rattle.qsg_works.specs.declared.work.Work.TheVariants.{Put, Get, Commit}
 use Rattle.qsg_works.specs.InHand.{work_of}
 use Rattle.qsg_steady.specs.Standing.{Stand, stand}
+use Rattle.qsg_steady.specs.Steady.{IsLawful}
 use Rattle.qsg_steady.proofs.Places.{member_some}
 use Rattle.qsg_fit.specs.Fits.{FitsPut, FitsGet}
 use Rattle.qsg_fit.specs.Outcomes.{FitsEnd}
@@ -112,24 +113,24 @@ past (x ∷ ms) (suc i) up = let h = past ms i up in omega (arith, h)
 -- a member whose task holds a unit is one of the group's
 holder_within : (s : State) (t : TaskNo) (v : UnitName) → IsSound s → (task_at v.member t s.parts.managers).unit ≡ Some v → member_number v.member ≤ length s.parts.managers
 holder_within s t v sound holds =
-    let live = (sound.steady.laws.in_hand v t holds).live in
+    let live = sound.steady.live v.member t v holds in
     let x = manager_in v.member s.parts.managers in
-    let there = past s.parts.managers (member_number v.member - 1) (and_parts x.up (v.incarnation.number == x.incarnation.number) live).0 in
+    let there = past s.parts.managers (member_number v.member - 1) live.up in
     omega (arith, there, member_some v.member)
 
-pub decides : (s : State) (t : TaskNo) (v : UnitName) → IsSound s → AreFitting s → (task_at v.member t s.parts.managers).unit ≡ Some v → is_hardened (task_at v.member t s.parts.managers).stage ≡ true
+pub decides : (s : State) (t : TaskNo) (v : UnitName) → IsSound s → IsLawful s.parts → AreFitting s → (task_at v.member t s.parts.managers).unit ≡ Some v → is_hardened (task_at v.member t s.parts.managers).stage ≡ true
     → IsDeciding s.parts.history.items (task_at v.member t s.parts.managers) v (pending_of s.parts.objects v.member t s.courses) (work_of v.member t s.works)
-decides s t v sound fits holds hardened =
-    let named = ap (is_unit v) (sym sound.steady.mirrored.history) ∙ (sound.steady.laws.in_hand v t holds).in_history ∙ hardened in
+decides s t v sound l fits holds hardened =
+    let named = ap (is_unit v) (sym l.mirrored.history) ∙ (l.laws.in_hand v t holds).in_history ∙ hardened in
     hand_decides s v.member t v (pending_of s.parts.objects v.member t s.courses) (work_of v.member t s.works) (holder_within s t v sound holds) holds hardened named (sound.hands v.member t) (fits.tasks v.member t)
 
 -- ---- counted once
 
 -- the COMMIT of a unit that is in hand wasn't answered
-pub unanswered : (s : State) (m : Member) (t : TaskNo) (v : UnitName) → IsSound s → AreFitting s → commits_now v (work_of m t s.works) ≡ true → IsNamed v s.courses → ⊥
-unanswered s m t v sound fits now answered =
-    let legal = sound.steady.laws.legal in
-    let most = once_most v (names s.parts.history.items) (subst (λ h. AllDiffer (names h)) sound.steady.mirrored.history legal.names_differ) in
+pub unanswered : (s : State) (m : Member) (t : TaskNo) (v : UnitName) → IsSound s → IsLawful s.parts → AreFitting s → commits_now v (work_of m t s.works) ≡ true → IsNamed v s.courses → ⊥
+unanswered s m t v sound l fits now answered =
+    let legal = l.laws.legal in
+    let most = once_most v (names s.parts.history.items) (subst (λ h. AllDiffer (names h)) l.mirrored.history legal.names_differ) in
     let without = counted_with (commits_now v) m t None s.works sound.forty in
     let one : one_if (commits_now v (work_of m t s.works)) ≡ one_if true = ap one_if now in
     let law = fits.once v in

@@ -34,7 +34,7 @@ use Rattle.qsg_manager.specs.Units.{decided}
 use Rattle.qsg_manager.proofs.Grouping.{manager_same}
 use Rattle.qsg_logs.specs.Held.{is_open}
 use Rattle.qsg_parts.specs.Owned.{Owned, HasMember}
-use Rattle.qsg_steady.specs.Steady.{IsSteady}
+use Rattle.qsg_steady.specs.Steady.{IsLawful, IsSteady}
 use Rattle.qsg_steady.proofs.Acting.{tasked, member_five}
 use Rattle.qsg_commit.specs.declared.phases.Phase.{Phase}
 use Rattle.qsg_commit.specs.declared.phases.Phase.TheVariants.{Settle, Publish, GiveUp, Undo}
@@ -155,29 +155,29 @@ drawn_by u old new live drawn same grows =
     record { past = omega (arith, at, same); below = λ e. omega (arith, drawn, grows) }
 
 -- a unit that its task had, and has no more, is one that no task has
-unheld_by : (a b : ℕ) (t : TaskNo) (u : UnitName) (p q : Owned) → IsSteady a b p → (task_at u.member t p.managers).unit ≡ Some u → IsFrame u.member t p.managers q.managers → task_at u.member t q.managers ≡ idle
+unheld_by : (a b : ℕ) (t : TaskNo) (u : UnitName) (p q : Owned) → IsSteady a b p → IsLawful p → (task_at u.member t p.managers).unit ≡ Some u → IsFrame u.member t p.managers q.managers → task_at u.member t q.managers ≡ idle
     → (k : Member) (w : TaskNo) → (task_at k w q.managers).unit ≡ Some u → ⊥
-unheld_by a b t u p q s holds frame free k w has = elim (cases_member k u.member) [
+unheld_by a b t u p q s l holds frame free k w has = elim (cases_member k u.member) [
   | inl same ↦ elim (cases_task w t) [
     | inl here ↦ none-some u (sym (ap (λ (z : Task). z.unit) free) ∙ subst (λ (x : TaskNo). (task_at u.member x q.managers).unit ≡ Some u) here (subst (λ (x : Member). (task_at x w q.managers).unit ≡ Some u) same has))
     | inr differ ↦
         let held = subst (λ (x : Member). (task_at x w p.managers).unit ≡ Some u) same (ap (λ (z : Task). z.unit) (sym (frame.others k w (λ e f. differ f))) ∙ has) in
-        differ (ap task_number (s.laws.once u w t held holds))
+        differ (ap task_number (l.laws.once u w t held holds))
   ]
   | inr differ ↦
       let held = ap (λ (z : Task). z.unit) (sym (frame.others k w (λ e f. differ e))) ∙ has in
       differ (ap member_number (sym (s.own k w u held)))
 ]
 
-left_out_by : (a b : ℕ) (t : TaskNo) (u : UnitName) (p q : Owned) → IsSteady a b p → (task_at u.member t p.managers).unit ≡ Some u → is_unit u p.history.items ≡ false → IsFrame u.member t p.managers q.managers
+left_out_by : (a b : ℕ) (t : TaskNo) (u : UnitName) (p q : Owned) → IsSteady a b p → IsLawful p → (task_at u.member t p.managers).unit ≡ Some u → is_unit u p.history.items ≡ false → IsFrame u.member t p.managers q.managers
     → q.history ≡ p.history → task_at u.member t q.managers ≡ idle → IsLeftOut q u
-left_out_by a b t u p q s holds out frame history free =
-    let hand = s.laws.in_hand u t holds in
+left_out_by a b t u p q s l holds out frame history free =
+    let hand = l.laws.in_hand u t holds in
     let grows = frame.grows u.member in
     record {
       out = ap (λ h. is_unit u h.items) history ∙ out;
       drawn = drawn_by u (seat_of (manager_in u.member p.managers)) (seat_of (manager_in u.member q.managers)) hand.live hand.drawn (ap (λ i. i.number) grows.incarnation) grows.next;
-      unheld = unheld_by a b t u p q s holds frame free;
+      unheld = unheld_by a b t u p q s l holds frame free;
     }
 
 -- a step of BACKOUT takes a mark off, of parts r in which the unit is given up
@@ -189,25 +189,25 @@ undo_by a b t ops u count before at p r true s holds out counted off finish go =
     finish (ended u t r) (move_more u.member t p r (ended u t r) off.move (end_there t u r off.there)) off.history (end_idle t u r off.there)
 undo_by a b t ops u count before at p r false s holds out counted off finish go = go r off.move off.history
 
-gave_up : (a b : ℕ) (t : TaskNo) (ops : List (StructNo × Op)) (u : UnitName) (count : ℕ) (p q : Owned) → IsSteady a b p → (task_at u.member t p.managers).unit ≡ Some u → is_unit u p.history.items ≡ false → IsCountOf ops count
+gave_up : (a b : ℕ) (t : TaskNo) (ops : List (StructNo × Op)) (u : UnitName) (count : ℕ) (p q : Owned) → IsSteady a b p → IsLawful p → (task_at u.member t p.managers).unit ≡ Some u → is_unit u p.history.items ≡ false → IsCountOf ops count
     → IsMove u.member t p q → q.history ≡ p.history → task_at u.member t q.managers ≡ idle → EndMoves u.member t ops GiveUp p (unit_ended u count) GiveUp q
-gave_up a b t ops u count p q s holds out counted move history free = record {
+gave_up a b t ops u count p q s l holds out counted move history free = record {
   move = move;
   history = ap (λ h. h.items) history;
   holds = ap (λ (z : Task). z.ops) free;
   ends = counted;
-  out = left_out_by a b t u p q s holds out move.frame history free;
+  out = left_out_by a b t u p q s l holds out move.frame history free;
   counts = λ v. refl;
 }
 
-undid : (a b : ℕ) (t : TaskNo) (ops : List (StructNo × Op)) (u : UnitName) (count : ℕ) (p q : Owned) → IsSteady a b p → (task_at u.member t p.managers).unit ≡ Some u → is_unit u p.history.items ≡ false → IsCountOf ops count
+undid : (a b : ℕ) (t : TaskNo) (ops : List (StructNo × Op)) (u : UnitName) (count : ℕ) (p q : Owned) → IsSteady a b p → IsLawful p → (task_at u.member t p.managers).unit ≡ Some u → is_unit u p.history.items ≡ false → IsCountOf ops count
     → IsMove u.member t p q → q.history ≡ p.history → task_at u.member t q.managers ≡ idle → EndMoves u.member t ops (Undo u count) p (unit_ended u count) (Undo u count) q
-undid a b t ops u count p q s holds out counted move history free = record {
+undid a b t ops u count p q s l holds out counted move history free = record {
   move = move;
   history = ap (λ h. h.items) history;
   holds = ap (λ (z : Task). z.ops) free;
   ends = counted;
-  out = left_out_by a b t u p q s holds out move.frame history free;
+  out = left_out_by a b t u p q s l holds out move.frame history free;
   counts = λ v. refl;
 }
 
@@ -248,12 +248,12 @@ publish_moves a b m t ops p u count s has own is =
     subst (λ (k : Member). HasMember k p → EndMoves k t ops (Publish u count) p (after_publish t u count p).turn (after_publish t u count p).phase (after_publish t u count p).parts) own
     (λ here. publish_there t ops u count p (there_of a b u.member p s here) is) has
 
-pub undo_moves : (a b : ℕ) (m : Member) (t : TaskNo) (ops : List (StructNo × Op)) (p : Owned) (u : UnitName) (count : ℕ) → IsSteady a b p → HasMember m p → u.member ≡ m → (task_at m t p.managers).unit ≡ Some u → is_unit u p.history.items ≡ false → IsCountOf ops count
+pub undo_moves : (a b : ℕ) (m : Member) (t : TaskNo) (ops : List (StructNo × Op)) (p : Owned) (u : UnitName) (count : ℕ) → IsSteady a b p → IsLawful p → HasMember m p → u.member ≡ m → (task_at m t p.managers).unit ≡ Some u → is_unit u p.history.items ≡ false → IsCountOf ops count
     → EndMoves m t ops (Undo u count) p (after_undo t u count (Undo u count) p).turn (after_undo t u count (Undo u count) p).phase (after_undo t u count (Undo u count) p).parts
-undo_moves a b m t ops p u count s has own holds out counted =
+undo_moves a b m t ops p u count s l has own holds out counted =
     subst (λ (k : Member). HasMember k p → (task_at k t p.managers).unit ≡ Some u → EndMoves k t ops (Undo u count) p (after_undo t u count (Undo u count) p).turn (after_undo t u count (Undo u count) p).phase (after_undo t u count (Undo u count) p).parts) own
     (λ here held. undo_by a b t ops u count (Undo u count) (Undo u count) p (settled u t p) (is_settled u t (settled u t p)) s held out counted (mark_off t u p (there_of a b u.member p s here))
-    (λ q move history free. undid a b t ops u count p q s held out counted move history free) (λ q move history. undoes t ops u count p q out counted move history)) has holds
+    (λ q move history free. undid a b t ops u count p q s l held out counted move history free) (λ q move history. undoes t ops u count p q out counted move history)) has holds
 
 -- the unit is given up, and loses its first mark
 off_given_up : (t : TaskNo) (u : UnitName) (p : Owned) → IsThere u.member p.managers → IsOff u.member t p (settled u t (given_up u t p))
@@ -271,30 +271,30 @@ off_given_up t u p there =
     }
 
 -- a unit that is open isn't in the history
-open_is_out : (a b : ℕ) (t : TaskNo) (u : UnitName) (p : Owned) → IsSteady a b p → (task_at u.member t p.managers).unit ≡ Some u → is_open (task_at u.member t p.managers).stage ≡ true → is_unit u p.history.items ≡ false
-open_is_out a b t u p s holds ready =
-    ap (is_unit u) (sym s.mirrored.history) ∙ (s.laws.in_hand u t holds).in_history ∙ ap (λ (z : Task). is_hardened z.stage) (opened (task_at u.member t p.managers) u holds ready)
+open_is_out : (t : TaskNo) (u : UnitName) (p : Owned) → IsLawful p → (task_at u.member t p.managers).unit ≡ Some u → is_open (task_at u.member t p.managers).stage ≡ true → is_unit u p.history.items ≡ false
+open_is_out t u p l holds ready =
+    ap (is_unit u) (sym l.mirrored.history) ∙ (l.laws.in_hand u t holds).in_history ∙ ap (λ (z : Task). is_hardened z.stage) (opened (task_at u.member t p.managers) u holds ready)
 
-give_up_there : (a b : ℕ) (t : TaskNo) (ops : List (StructNo × Op)) (p : Owned) (u : UnitName) (count : ℕ) → IsSteady a b p → HasMember u.member p → (task_at u.member t p.managers).unit ≡ Some u → is_open (task_at u.member t p.managers).stage ≡ true
+give_up_there : (a b : ℕ) (t : TaskNo) (ops : List (StructNo × Op)) (p : Owned) (u : UnitName) (count : ℕ) → IsSteady a b p → IsLawful p → HasMember u.member p → (task_at u.member t p.managers).unit ≡ Some u → is_open (task_at u.member t p.managers).stage ≡ true
     → IsCountOf ops count → EndMoves u.member t ops GiveUp p (after_give_up t (Some (u, count)) p).turn (after_give_up t (Some (u, count)) p).phase (after_give_up t (Some (u, count)) p).parts
-give_up_there a b t ops p u count s has holds ready counted =
-    let out = open_is_out a b t u p s holds ready in
+give_up_there a b t ops p u count s l has holds ready counted =
+    let out = open_is_out t u p l holds ready in
     let r = settled u t (given_up u t p) in
     undo_by a b t ops u count GiveUp GiveUp p r (is_settled u t r) s holds out counted (off_given_up t u p (there_of a b u.member p s has))
-    (λ q move history free. gave_up a b t ops u count p q s holds out counted move history free) (λ q move history. gives_up t ops u count p q out counted move history)
+    (λ q move history free. gave_up a b t ops u count p q s l holds out counted move history free) (λ q move history. gives_up t ops u count p q out counted move history)
 
-give_up_by : (a b : ℕ) (m : Member) (t : TaskNo) (ops : List (StructNo × Op)) (p : Owned) (found : Option (UnitName × ℕ)) → IsSteady a b p → HasMember m p → is_open (task_at m t p.managers).stage ≡ true → (task_at m t p.managers).ops ≡ ops → pending (task_at m t p.managers) ≡ found
+give_up_by : (a b : ℕ) (m : Member) (t : TaskNo) (ops : List (StructNo × Op)) (p : Owned) (found : Option (UnitName × ℕ)) → IsSteady a b p → IsLawful p → HasMember m p → is_open (task_at m t p.managers).stage ≡ true → (task_at m t p.managers).ops ≡ ops → pending (task_at m t p.managers) ≡ found
     → EndMoves m t ops GiveUp p (after_give_up t found p).turn (after_give_up t found p).phase (after_give_up t found p).parts
-give_up_by a b m t ops p None s has ready held is =
+give_up_by a b m t ops p None s l has ready held is =
     let none = nothing_pending a b m t p s is in
     record { move = still m t p; history = refl; holds = none; ends = record { pending = sym held ∙ none; none = refl }; out = tt; counts = λ u. refl }
-give_up_by a b m t ops p (Some (u, count)) s has ready held is =
+give_up_by a b m t ops p (Some (u, count)) s l has ready held is =
     let holds = pending_unit (task_at m t p.managers) u count is in
     let counted = subst (λ l. IsCountOf l count) held (some_pending (task_at m t p.managers) u count is) in
     subst (λ (k : Member). HasMember k p → (task_at k t p.managers).unit ≡ Some u → is_open (task_at k t p.managers).stage ≡ true
     → EndMoves k t ops GiveUp p (after_give_up t (Some (u, count)) p).turn (after_give_up t (Some (u, count)) p).phase (after_give_up t (Some (u, count)) p).parts) (s.own m t u holds)
-    (λ h o r. give_up_there a b t ops p u count s h o r counted) has holds ready
+    (λ h o r. give_up_there a b t ops p u count s l h o r counted) has holds ready
 
-pub give_up_moves : (a b : ℕ) (m : Member) (t : TaskNo) (ops : List (StructNo × Op)) (p : Owned) → IsSteady a b p → HasMember m p → is_open (task_at m t p.managers).stage ≡ true → (task_at m t p.managers).ops ≡ ops
+pub give_up_moves : (a b : ℕ) (m : Member) (t : TaskNo) (ops : List (StructNo × Op)) (p : Owned) → IsSteady a b p → IsLawful p → HasMember m p → is_open (task_at m t p.managers).stage ≡ true → (task_at m t p.managers).ops ≡ ops
     → EndMoves m t ops GiveUp p (after_give_up t (pending (task_at m t p.managers)) p).turn (after_give_up t (pending (task_at m t p.managers)) p).phase (after_give_up t (pending (task_at m t p.managers)) p).parts
-give_up_moves a b m t ops p s has ready held = give_up_by a b m t ops p (pending (task_at m t p.managers)) s has ready held refl
+give_up_moves a b m t ops p s l has ready held = give_up_by a b m t ops p (pending (task_at m t p.managers)) s l has ready held refl

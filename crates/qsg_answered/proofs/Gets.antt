@@ -44,7 +44,7 @@ use Rattle.qsg_manager.proofs.Gets.{shelf_order}
 use Rattle.qsg_logs.specs.Kept.{log_in}
 use Rattle.qsg_logs.specs.Writers.{reserve_answer}
 use Rattle.qsg_parts.specs.Owned.{Owned, HasMember}
-use Rattle.qsg_steady.specs.Steady.{IsSteady}
+use Rattle.qsg_steady.specs.Steady.{IsLawful, IsSteady}
 use Rattle.qsg_steady.proofs.Acting.{member_five}
 use Rattle.qsg_get.specs.declared.checking.Terms.{Terms}
 use Rattle.qsg_get.specs.declared.phases.Phase.{Phase}
@@ -124,27 +124,27 @@ visible_is (GotBy u) is = absurd (true≢false (sym is))
 visible_is Cleanup is = absurd (true≢false (sym is))
 
 -- an entry that is found counts
-counts_there : (a b : ℕ) (p : Owned) (s : IsSteady a b p) (c : StructNo) (queue : List ℕ) (order : Delivery) (select : Selector) (e : Entry) → lists.first_of queue order select (structure_in c p.structures).entries ≡ Some e
-    → option_and_then (counted s.rest.logs) (entry_at e.id.number (map (held_of s.rest.outside c) (structure_in c p.structures).entries)) ≡ Some (message_of c e.id e.head (body_of s.rest.outside e.place))
-counts_there a b p s c queue order select e first =
+counts_there : (p : Owned) (l : IsLawful p) (c : StructNo) (queue : List ℕ) (order : Delivery) (select : Selector) (e : Entry) → lists.first_of queue order select (structure_in c p.structures).entries ≡ Some e
+    → option_and_then (counted l.rest.logs) (entry_at e.id.number (map (held_of l.rest.outside c) (structure_in c p.structures).entries)) ≡ Some (message_of c e.id e.head (body_of l.rest.outside e.place))
+counts_there p l c queue order select e first =
     let es = (structure_in c p.structures).entries in
-    let ordered = shelf_order s.rest.outside c (structure_in c p.structures) (s.laws.shelves c) in
+    let ordered = shelf_order l.rest.outside c (structure_in c p.structures) (l.laws.shelves c) in
     let mark = visible_is e.mark (and_parts (is_visible e.mark) (lists.is_name e.head.queue queue && lists.meets select e.head) (first-waits queue order select es e first)).0 in
-    ap (option_and_then (counted s.rest.logs))
-    (found s.rest.outside c e.id es
-    ∙ ap (option_map (held_of s.rest.outside c)) (find-entry_at (lists.is_first queue order select es) es e ordered first)
-    ∙ ap (λ x. Some (record (held_of s.rest.outside c e) { mark = x })) mark)
+    ap (option_and_then (counted l.rest.logs))
+    (found l.rest.outside c e.id es
+    ∙ ap (option_map (held_of l.rest.outside c)) (find-entry_at (lists.is_first queue order select es) es e ordered first)
+    ∙ ap (λ x. Some (record (held_of l.rest.outside c e) { mark = x })) mark)
 
 -- a message that is got is held
-read_is : (a b : ℕ) (p : Owned) (s : IsSteady a b p) (terms : Terms) (epoch : ℕ) (queue : List ℕ) (select : Selector) (e : Entry) (body : List ℕ) → lost_of (structure_in terms.structure p.structures) (use_of terms epoch) ≡ None
+read_is : (p : Owned) (l : IsLawful p) (terms : Terms) (epoch : ℕ) (queue : List ℕ) (select : Selector) (e : Entry) (body : List ℕ) → lost_of (structure_in terms.structure p.structures) (use_of terms epoch) ≡ None
     → found_in (use_of terms epoch) queue terms.order select p.structures ≡ Some e → e.place ≡ Inline body → IsRead p.history.items (length p.history.items) (message_of terms.structure e.id e.head body)
-read_is a b p s terms epoch queue select e body served first inline =
+read_is p l terms epoch queue select e body served first inline =
     let m = message_of terms.structure e.id e.head body in
     let h = p.history.items in
     let active = served_active (structure_in terms.structure p.structures) (use_of terms epoch) served in
-    let there = ap (λ (x : Place). Some (message_of terms.structure e.id e.head (body_of s.rest.outside x))) (sym inline) in
+    let there = ap (λ (x : Place). Some (message_of terms.structure e.id e.head (body_of l.rest.outside x))) (sym inline) in
     let held : held_at (key m) h ≡ Some m =
-    ap (held_at (key m)) (sym s.mirrored.history) ∙ sym (s.laws.good terms.structure active e.id.number) ∙ counts_there a b p s terms.structure queue terms.order select e first ∙ sym there in
+    ap (held_at (key m)) (sym l.mirrored.history) ∙ sym (l.laws.good terms.structure active e.id.number) ∙ counts_there p l terms.structure queue terms.order select e first ∙ sym there in
     record { past = omega arith; held = ap (held_at (key m)) (take-length h) ∙ held }
 
 pub found_inside : (p : Entry → Bool) (es : List Entry) (e : Entry) → AllByRecursion IsInside es → find p es ≡ Some e → IsInside e
@@ -155,12 +155,12 @@ found_inside p (x ∷ es) e each is = by (p x) is (found_inside p es e each.1)
     by true is rest = subst IsInside (same_Some x e is) each.0
     by false is rest = rest is
 
-took : (a b : ℕ) (t : TaskNo) (ops : List (StructNo × Op)) (queue : List ℕ) (select : Selector) (u : UnitName) (terms : Terms) (epoch : ℕ) (p : Owned) (e : Entry) (place : Place) → IsSteady a b p → HasMember u.member p → (task_at u.member t p.managers).ops ≡ ops
+took : (a b : ℕ) (t : TaskNo) (ops : List (StructNo × Op)) (queue : List ℕ) (select : Selector) (u : UnitName) (terms : Terms) (epoch : ℕ) (p : Owned) (e : Entry) (place : Place) → IsSteady a b p → IsLawful p → HasMember u.member p → (task_at u.member t p.managers).ops ≡ ops
     → AllByRecursion AreInside p.structures → lost_of (structure_in terms.structure p.structures) (use_of terms epoch) ≡ None → found_in (use_of terms epoch) queue terms.order select p.structures ≡ Some e → e.place ≡ place
     → Answered u.member t ops (work.Get (in_phase u.member t queue select (Take u terms epoch))) (told_of terms.structure (taken_of e) (body_taken place)) p (after_take u.member t u terms epoch p None (Some e)).parts
-took a b t ops queue select u terms epoch p e (Offloaded owner blocks long) s has held inside served first place =
+took a b t ops queue select u terms epoch p e (Offloaded owner blocks long) s l has held inside served first place =
     absurd (true≢false (sym (ap is_outside place) ∙ found_inside (lists.is_first queue terms.order select (structure_in terms.structure p.structures).entries) (structure_in terms.structure p.structures).entries e (inside_in terms.structure p.structures inside) first))
-took a b t ops queue select u terms epoch p e (Inline body) s has held inside served first place =
+took a b t ops queue select u terms epoch p e (Inline body) s l has held inside served first place =
     let m = u.member in
     let task = task_at m t p.managers in
     let structure = structure_in terms.structure p.structures in
@@ -175,29 +175,29 @@ took a b t ops queue select u terms epoch p e (Inline body) s has held inside se
       };
       history = refl;
       holds = ap (λ (z : Task). z.ops) (task_stored m t y p.managers has.manager five) ∙ ap (λ l. l ++ (terms.structure, Got e.id) ∷ []) held;
-      ends = read_is a b p s terms epoch queue select e body served first place;
+      ends = read_is p l terms epoch queue select e body served first place;
       out = tt;
       counts = λ v. refl;
     }
 
-taking : (a b : ℕ) (t : TaskNo) (ops : List (StructNo × Op)) (queue : List ℕ) (select : Selector) (u : UnitName) (terms : Terms) (epoch : ℕ) (p : Owned) (lost : Option Lost) (first : Option Entry) → IsSteady a b p → HasMember u.member p
+taking : (a b : ℕ) (t : TaskNo) (ops : List (StructNo × Op)) (queue : List ℕ) (select : Selector) (u : UnitName) (terms : Terms) (epoch : ℕ) (p : Owned) (lost : Option Lost) (first : Option Entry) → IsSteady a b p → IsLawful p → HasMember u.member p
     → (task_at u.member t p.managers).ops ≡ ops → AllByRecursion AreInside p.structures → lost_of (structure_in terms.structure p.structures) (use_of terms epoch) ≡ lost → found_in (use_of terms epoch) queue terms.order select p.structures ≡ first
     → GetMoves u.member t ops queue select (Take u terms epoch) p (after_take u.member t u terms epoch p lost first)
-taking a b t ops queue select u terms epoch p (Some lost) first s has held inside served is = answer_refused u.member t ops queue select (Take u terms epoch) p _ _ (Take u terms epoch) held refl refl refl refl refl
-taking a b t ops queue select u terms epoch p None None s has held inside served is = answer_refused u.member t ops queue select (Take u terms epoch) p _ _ (Take u terms epoch) held refl refl refl refl refl
-taking a b t ops queue select u terms epoch p None (Some e) s has held inside served is = took a b t ops queue select u terms epoch p e e.place s has held inside served is refl
+taking a b t ops queue select u terms epoch p (Some lost) first s l has held inside served is = answer_refused u.member t ops queue select (Take u terms epoch) p _ _ (Take u terms epoch) held refl refl refl refl refl
+taking a b t ops queue select u terms epoch p None None s l has held inside served is = answer_refused u.member t ops queue select (Take u terms epoch) p _ _ (Take u terms epoch) held refl refl refl refl refl
+taking a b t ops queue select u terms epoch p None (Some e) s l has held inside served is = took a b t ops queue select u terms epoch p e e.place s l has held inside served is refl
 
 -- ---- each step
 
-get_at : (a b : ℕ) (m : Member) (t : TaskNo) (ops : List (StructNo × Op)) (queue : List ℕ) (select : Selector) (p : Owned) (phase : Phase) → IsSteady a b p → HasMember m p → IsOwn m phase → (task_at m t p.managers).ops ≡ ops → AllByRecursion AreInside p.structures
+get_at : (a b : ℕ) (m : Member) (t : TaskNo) (ops : List (StructNo × Op)) (queue : List ℕ) (select : Selector) (p : Owned) (phase : Phase) → IsSteady a b p → IsLawful p → HasMember m p → IsOwn m phase → (task_at m t p.managers).ops ≡ ops → AllByRecursion AreInside p.structures
     → GetMoves m t ops queue select phase p (next_at m t queue select p phase)
-get_at a b m t ops queue select p Check s has own held inside = checking a b m t ops queue select p (check_answer p.objects queue (length (task_at m t p.managers).ops)) s has held
-get_at a b m t ops queue select p (Connect u terms) s has own held inside = connecting m t ops queue select u terms p (connect_answer (structure_in terms.structure p.structures)) held
-get_at a b m t ops queue select p (Take u terms epoch) s has own held inside =
+get_at a b m t ops queue select p Check s l has own held inside = checking a b m t ops queue select p (check_answer p.objects queue (length (task_at m t p.managers).ops)) s has held
+get_at a b m t ops queue select p (Connect u terms) s l has own held inside = connecting m t ops queue select u terms p (connect_answer (structure_in terms.structure p.structures)) held
+get_at a b m t ops queue select p (Take u terms epoch) s l has own held inside =
     subst (λ (k : Member). HasMember k p → (task_at k t p.managers).ops ≡ ops → GetMoves k t ops queue select (Take u terms epoch) p (next_at k t queue select p (Take u terms epoch))) own
-    (λ there ready. taking a b t ops queue select u terms epoch p (lost_of (structure_in terms.structure p.structures) (use_of terms epoch)) (found_in (use_of terms epoch) queue terms.order select p.structures) s there ready inside refl refl)
+    (λ there ready. taking a b t ops queue select u terms epoch p (lost_of (structure_in terms.structure p.structures) (use_of terms epoch)) (found_in (use_of terms epoch) queue terms.order select p.structures) s l there ready inside refl refl)
     has held
 
-pub get_moves : (a b : ℕ) (ops : List (StructNo × Op)) (p : Owned) (w : Work) → IsSteady a b p → HasMember w.member p → IsOwn w.member w.phase → (task_at w.member w.task p.managers).ops ≡ ops → AllByRecursion AreInside p.structures
+pub get_moves : (a b : ℕ) (ops : List (StructNo × Op)) (p : Owned) (w : Work) → IsSteady a b p → IsLawful p → HasMember w.member p → IsOwn w.member w.phase → (task_at w.member w.task p.managers).ops ≡ ops → AllByRecursion AreInside p.structures
     → Moves w.member w.task ops (work.Get w) (work.Get (record w { phase = (next_get w p).phase })) p (next_get w p).parts (next_get w p).turn
-get_moves a b ops p w s has own held inside = get_at a b w.member w.task ops w.queue w.select p w.phase s has own held inside
+get_moves a b ops p w s l has own held inside = get_at a b w.member w.task ops w.queue w.select p w.phase s l has own held inside

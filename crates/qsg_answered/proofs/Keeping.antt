@@ -20,6 +20,7 @@ use Rattle.qsg_manager.specs.Storage.{task_at}
 use Rattle.qsg_parts.specs.Owned.{Owned}
 use Rattle.qsg_works.specs.declared.work.Work.{Work}
 use Rattle.qsg_works.specs.InHand.{work_of, with_work}
+use Rattle.qsg_steady.specs.Steady.{IsLawful}
 use Rattle.qsg_step.specs.States.{State}
 use Rattle.qsg_step.specs.Steps.{answer_to}
 use Rattle.qsg_sound.specs.Sound.{request_in, IsSound}
@@ -40,10 +41,10 @@ unfailed_stay p q same unfailed m i = ap (λ l. is_unresolved m (record { number
 
 -- ---- a request goes on
 
-pub goes_fitting : (m : Member) (t : TaskNo) (before work : Work) (q : Owned) (failed : List Bool) (s : State) → IsSound s → AreFitting s
+pub goes_fitting : (m : Member) (t : TaskNo) (before work : Work) (q : Owned) (failed : List Bool) (s : State) → IsSound s → IsLawful s.parts → AreFitting s
     → ((u : UnitName) → commits_now u (work_of m t s.works) ≡ commits_now u (Some before)) → Goes m t (pending_of s.parts.objects m t s.courses) before work s.parts q
     → AreFitting (record s { parts = q; works = with_work m t (Some work) s.works; failed = failed })
-goes_fitting m t before work q failed s sound fits same goes =
+goes_fitting m t before work q failed s sound l fits same goes =
     let p = s.parts in
     let works = with_work m t (Some work) s.works in
     record {
@@ -55,7 +56,7 @@ goes_fitting m t before work q failed s sound fits same goes =
           subst (λ (x : Option Work). Holds q.objects q.history.items (task_at k w q.managers) (pending_of q.objects k w s.courses) x) (sym (work_other m t (Some work) s.works k w differ))
           (subst (λ (o : Registry). Holds q.objects q.history.items (task_at k w q.managers) (pending_of o k w s.courses) (work_of k w s.works)) (sym goes.move.objects)
           (other_holds m t k w p q (pending_of p.objects k w s.courses) (work_of k w s.works) goes.move goes.history differ
-          (λ added. hand_apart s m t k w added.unit (work_of k w s.works) sound differ added.holds (sound.hands k w)) (fits.tasks k w))));
+          (λ added. hand_apart s m t k w added.unit (work_of k w s.works) sound l differ added.holds (sound.hands k w)) (fits.tasks k w))));
       left_out = all_more (LeavesOut p) (LeavesOut q) s.courses (λ c. leaves_out_stays m t p q c goes.move.frame goes.history) fits.left_out;
       once = λ u.
           let counted = counted_with (commits_now u) m t (Some work) s.works sound.forty in
@@ -77,10 +78,10 @@ own_pending objects m t d a c cs is =
     ∙ pending_more objects c d a is.next
     ∙ (λ i. pending_after objects (pending_in objects (sym is.course i)) (requested (course_is (actor.Task m t) cs c is.course i) d) a.reply)
 
-pub answered_fitting : (m : Member) (t : TaskNo) (d : Directive) (before : Work) (r : Reply) (c : Course) (q : Owned) (s : State) → IsSound s → AreFitting s → IsNextOf (actor.Task m t) d c s.courses
+pub answered_fitting : (m : Member) (t : TaskNo) (d : Directive) (before : Work) (r : Reply) (c : Course) (q : Owned) (s : State) → IsSound s → IsLawful s.parts → AreFitting s → IsNextOf (actor.Task m t) d c s.courses
     → IsTaken m t d (pending_of s.parts.objects m t s.courses) before s → Answered m t (pending_of s.parts.objects m t s.courses) before r s.parts q
     → AreFitting (record s { parts = q; works = with_work m t None s.works; courses = answered (actor.Task m t) (answer_to d r s) s.courses })
-answered_fitting m t d before r c q s sound fits is taken done =
+answered_fitting m t d before r c q s sound l fits is taken done =
     let p = s.parts in
     let who = actor.Task m t in
     let a = answer_to d r s in
@@ -103,7 +104,7 @@ answered_fitting m t d before r c q s sound fits is taken done =
           (subst (λ (x : Option Course). Holds q.objects q.history.items (task_at k w q.managers) (pending_in q.objects x) (work_of k w s.works)) (sym (answered_apart who (actor.Task k w) a s.courses (tasks_apart m t k w differ)))
           (subst (λ (o : Registry). Holds q.objects q.history.items (task_at k w q.managers) (pending_of o k w s.courses) (work_of k w s.works)) (sym done.move.objects)
           (other_holds m t k w p q (pending_of p.objects k w s.courses) (work_of k w s.works) done.move goes differ
-          (λ added. hand_apart s m t k w added.unit (work_of k w s.works) sound differ added.holds (sound.hands k w)) (fits.tasks k w)))));
+          (λ added. hand_apart s m t k w added.unit (work_of k w s.works) sound l differ added.holds (sound.hands k w)) (fits.tasks k w)))));
       left_out = out_answered q who d a c s.courses is
           (all_more (LeavesOut p) (LeavesOut q) s.courses (λ x. leaves_out_stays m t p q x done.move.frame goes) fits.left_out)
           (subst (λ (x : Option Request). StaysOut q x r) (sym taken.asked) done.out);

@@ -13,6 +13,7 @@ pub mod Staying
 pub mod Taking
 pub mod Keeping
 pub mod Founded
+pub mod Tellers
 pub mod Steps
 pub mod Histories
 pub mod Deciding

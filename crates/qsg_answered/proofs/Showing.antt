@@ -38,6 +38,7 @@ use Rattle.qsg_manager.specs.Facilities.{structure_in}
 use Rattle.qsg_manager.specs.Storage.{task_at}
 use Rattle.qsg_manager.specs.Views.{body_of, is_outside, message_of, held_of}
 use Rattle.qsg_manager.proofs.Bridges.{found}
+use Rattle.qsg_steady.specs.Steady.{IsLawful}
 use Rattle.qsg_step.specs.States.{State}
 use Rattle.qsg_sound.specs.Sound.{IsSound}
 use Rattle.qsg_answered.specs.Telling.{pending_of}
@@ -58,31 +59,31 @@ claimed_by (Committed first n) ops claims k m hardened due = left_claimed n k cl
 claimed_by (BackedOut n) ops claims k m hardened due = absurd (true≢false (sym hardened))
 
 -- no incarnation failed, as the machine sees it
-none_failed : (s : State) (u : UnitName) (sound : IsSound s) → AreFitting s → sound.steady.rest.failed u.member u.incarnation.number ≡ true → ⊥
-none_failed s u sound fits failed = both_ways (sound.steady.rest.failed u.member u.incarnation.number) (sound.steady.mirrored.failed u.member u.incarnation.number ∙ fits.unfailed u.member u.incarnation.number) failed
+none_failed : (s : State) (u : UnitName) (sound : IsSound s) (l : IsLawful s.parts) → AreFitting s → l.rest.failed u.member u.incarnation.number ≡ true → ⊥
+none_failed s u sound l fits failed = both_ways (l.rest.failed u.member u.incarnation.number) (l.mirrored.failed u.member u.incarnation.number ∙ fits.unfailed u.member u.incarnation.number) failed
 
-marked_live : (s : State) (t : TaskNo) (v : UnitName) (m : Message) (sound : IsSound s) (fits : AreFitting s) → is_committed sound.steady.rest.logs v ≡ true → IsDelivered m s.parts.history.items s.courses → (task_at v.member t s.parts.managers).unit ≡ Some v
+marked_live : (s : State) (t : TaskNo) (v : UnitName) (m : Message) (sound : IsSound s) (l : IsLawful s.parts) (fits : AreFitting s) → is_committed l.rest.logs v ≡ true → IsDelivered m s.parts.history.items s.courses → (task_at v.member t s.parts.managers).unit ≡ Some v
     → PutsBy (task_at v.member t s.parts.managers).stage (task_at v.member t s.parts.managers).ops (task_at v.member t s.parts.managers).claims (key m) m → ⊥
-marked_live s t v m sound fits committed given holds due =
+marked_live s t v m sound l fits committed given holds due =
     let h = s.parts.history.items in
     let task = task_at v.member t s.parts.managers in
-    let hardened = sym (sound.steady.laws.in_hand v t holds).in_log ∙ committed in
-    let deciding = decides s t v sound fits holds hardened in
-    let legal : Legal h = subst Legal sound.steady.mirrored.history sound.steady.laws.legal in
+    let hardened = sym (l.laws.in_hand v t holds).in_log ∙ committed in
+    let deciding = decides s t v sound l fits holds hardened in
+    let legal : Legal h = subst Legal l.mirrored.history l.laws.legal in
     let ops = pending_of s.parts.objects v.member t s.courses in
     let claimed = ap (λ ks. has_key ks (key m)) (sym deciding.settled.claims) ∙ claimed_by task.stage task.ops task.claims (key m) m hardened due in
     elim (put_or_got (key m) ops claimed) [
       | inl put ↦
           let same = put_once (key m) h v given.unit ops given.ops legal.puts_differ deciding.settled.committed.there given.there put given.put in
-          unanswered s v.member t v sound fits deciding.commits (subst (λ (x : UnitName). IsNamed x s.courses) (sym same) given.answered)
+          unanswered s v.member t v sound l fits deciding.commits (subst (λ (x : UnitName). IsNamed x s.courses) (sym same) given.answered)
       | inr got ↦ none-some m (sym (got_is_unheld (key m) h legal (unit_got (key m) h v ops deciding.settled.committed.there got)) ∙ given.held)
     ]
 
-marked_put : (s : State) (v : UnitName) (m : Message) (sound : IsSound s) (fits : AreFitting s) → is_committed sound.steady.rest.logs v ≡ true → IsDelivered m s.parts.history.items s.courses
-    → MarkNames sound.steady.rest.failed (λ k w. task_at k w s.parts.managers) (key m) m (PutBy v) → ⊥
-marked_put s v m sound fits committed given names = elim names [
-  | inl failed ↦ none_failed s v sound fits failed
-  | inr live ↦ marked_live s live.0 v m sound fits committed given live.1 live.2
+marked_put : (s : State) (v : UnitName) (m : Message) (sound : IsSound s) (l : IsLawful s.parts) (fits : AreFitting s) → is_committed l.rest.logs v ≡ true → IsDelivered m s.parts.history.items s.courses
+    → MarkNames l.rest.failed (λ k w. task_at k w s.parts.managers) (key m) m (PutBy v) → ⊥
+marked_put s v m sound l fits committed given names = elim names [
+  | inl failed ↦ none_failed s v sound l fits failed
+  | inr live ↦ marked_live s live.0 v m sound l fits committed given live.1 live.2
 ]
 
 -- ---- an entry that counts
@@ -108,29 +109,29 @@ inline_is e (Inline body) is inside = (body, is)
 inline_is e (Offloaded owner blocks long) is inside = absurd (true≢false (sym (ap is_outside is) ∙ inside))
 
 -- the machine's entry of an id
-entry_is : (s : State) (sound : IsSound s) (x : StructNo) (id : EntryId) (o : Option Entry) → lists.entry_at id (structure_in x s.parts.structures).entries ≡ o
-    → entry_at id.number (map (held_of sound.steady.rest.outside x) (structure_in x s.parts.structures).entries) ≡ option_map (held_of sound.steady.rest.outside x) o
-entry_is s sound x id o is = found sound.steady.rest.outside x id (structure_in x s.parts.structures).entries ∙ ap (option_map (held_of sound.steady.rest.outside x)) is
+entry_is : (s : State) (sound : IsSound s) (l : IsLawful s.parts) (x : StructNo) (id : EntryId) (o : Option Entry) → lists.entry_at id (structure_in x s.parts.structures).entries ≡ o
+    → entry_at id.number (map (held_of l.rest.outside x) (structure_in x s.parts.structures).entries) ≡ option_map (held_of l.rest.outside x) o
+entry_is s sound l x id o is = found l.rest.outside x id (structure_in x s.parts.structures).entries ∙ ap (option_map (held_of l.rest.outside x)) is
 
 -- what counts under the id of a message that is held is that message
-counts_there : (s : State) (sound : IsSound s) (m : Message) (o : Option Entry) → is_active (structure_in m.structure s.parts.structures).state ≡ true → held_at (key m) s.parts.history.items ≡ Some m → lists.entry_at m.id (structure_in m.structure s.parts.structures).entries ≡ o
-    → option_and_then (counted sound.steady.rest.logs) (option_map (held_of sound.steady.rest.outside m.structure) o) ≡ Some m
-counts_there s sound m o active held is =
-    ap (option_and_then (counted sound.steady.rest.logs)) (sym (entry_is s sound m.structure m.id o is))
-    ∙ sound.steady.laws.good m.structure active m.id.number ∙ ap (held_at (key m)) sound.steady.mirrored.history ∙ held
+counts_there : (s : State) (sound : IsSound s) (l : IsLawful s.parts) (m : Message) (o : Option Entry) → is_active (structure_in m.structure s.parts.structures).state ≡ true → held_at (key m) s.parts.history.items ≡ Some m → lists.entry_at m.id (structure_in m.structure s.parts.structures).entries ≡ o
+    → option_and_then (counted l.rest.logs) (option_map (held_of l.rest.outside m.structure) o) ≡ Some m
+counts_there s sound l m o active held is =
+    ap (option_and_then (counted l.rest.logs)) (sym (entry_is s sound l m.structure m.id o is))
+    ∙ l.laws.good m.structure active m.id.number ∙ ap (held_at (key m)) l.mirrored.history ∙ held
 
-shows : (s : State) (sound : IsSound s) (m : Message) (e : Entry) → AreFitting s → is_active (structure_in m.structure s.parts.structures).state ≡ true → IsDelivered m s.parts.history.items s.courses
+shows : (s : State) (sound : IsSound s) (l : IsLawful s.parts) (m : Message) (e : Entry) → AreFitting s → is_active (structure_in m.structure s.parts.structures).state ≡ true → IsDelivered m s.parts.history.items s.courses
     → lists.entry_at m.id (structure_in m.structure s.parts.structures).entries ≡ Some e → IsShown m (structure_in m.structure s.parts.structures)
-shows s sound m e fits active given is =
+shows s sound l m e fits active given is =
     let structure = structure_in m.structure s.parts.structures in
-    let outside = sound.steady.rest.outside in
+    let outside = l.rest.outside in
     let msg = message_of m.structure e.id e.head (body_of outside e.place) in
-    let named = sound.steady.laws.marked m.structure m.id.number (held_of outside m.structure e) (entry_is s sound m.structure m.id (Some e) is) in
-    let both = shown_by sound.steady.rest.logs msg m e.mark (counts_there s sound m (Some e) active given.held is)
+    let named = l.laws.marked m.structure m.id.number (held_of outside m.structure e) (entry_is s sound l m.structure m.id (Some e) is) in
+    let both = shown_by l.rest.logs msg m e.mark (counts_there s sound l m (Some e) active given.held is)
     (λ v mark committed same.
-    marked_put s v m sound fits committed given
-    (subst (λ (y : Message). MarkNames sound.steady.rest.failed (λ k w. task_at k w s.parts.managers) (key m) y (PutBy v)) same
-    (subst (λ (y : Mark). MarkNames sound.steady.rest.failed (λ k w. task_at k w s.parts.managers) (key m) msg y) mark named))) in
+    marked_put s v m sound l fits committed given
+    (subst (λ (y : Message). MarkNames l.rest.failed (λ k w. task_at k w s.parts.managers) (key m) y (PutBy v)) same
+    (subst (λ (y : Mark). MarkNames l.rest.failed (λ k w. task_at k w s.parts.managers) (key m) msg y) mark named))) in
     let inline = inline_is e e.place refl (found_inside (lists.has_id m.id) structure.entries e (inside_in m.structure s.parts.structures fits.inside) is) in
     let same : message_of m.structure e.id e.head inline.0 ≡ m = ap (λ (y : Place). message_of m.structure e.id e.head (body_of outside y)) (sym inline.1) ∙ both.0 in
     let body : inline.0 ≡ m.body = ap (λ (y : Message). y.body) same in
@@ -142,12 +143,12 @@ shows s sound m e fits active given is =
       shown = both.1;
     }
 
-pub delivered_shown : (s : State) → IsSound s → AreFitting s → AreShown s
-delivered_shown s sound fits m active given = by (lists.entry_at m.id (structure_in m.structure s.parts.structures).entries) refl
+pub delivered_shown : (s : State) → IsSound s → IsLawful s.parts → AreFitting s → AreShown s
+delivered_shown s sound l fits m active given = by (lists.entry_at m.id (structure_in m.structure s.parts.structures).entries) refl
   where
     by : (o : Option Entry) → lists.entry_at m.id (structure_in m.structure s.parts.structures).entries ≡ o → IsShown m (structure_in m.structure s.parts.structures)
-    by None is = absurd (none-some m (counts_there s sound m None active given.held is))
-    by (Some e) is = shows s sound m e fits active given is
+    by None is = absurd (none-some m (counts_there s sound l m None active given.held is))
+    by (Some e) is = shows s sound l m e fits active given is
 
 -- ---- a structure at rest
 
@@ -174,32 +175,32 @@ gets_none h x id (Hardening first) ops claims matched all due = both_ways (is_go
 gets_none h x id (Committed first n) ops claims matched all due = unclaimed x id n claims all due
 gets_none h x id (BackedOut n) ops claims matched all due = unclaimed x id n claims all due
 
-none_named : (s : State) (v : UnitName) (Due : Task → Type 0) (sound : IsSound s) → AreFitting s → ((t : TaskNo) → (task_at v.member t s.parts.managers).unit ≡ Some v → Due (task_at v.member t s.parts.managers) → ⊥)
-    → Names sound.steady.rest.failed (λ k w. task_at k w s.parts.managers) v Due → ⊥
-none_named s v Due sound fits none names = elim names [
-  | inl failed ↦ none_failed s v sound fits failed
+none_named : (s : State) (v : UnitName) (Due : Task → Type 0) (sound : IsSound s) (l : IsLawful s.parts) → AreFitting s → ((t : TaskNo) → (task_at v.member t s.parts.managers).unit ≡ Some v → Due (task_at v.member t s.parts.managers) → ⊥)
+    → Names l.rest.failed (λ k w. task_at k w s.parts.managers) v Due → ⊥
+none_named s v Due sound l fits none names = elim names [
+  | inl failed ↦ none_failed s v sound l fits failed
   | inr live ↦ none live.0 live.1 live.2
 ]
 
-quiet_by : (s : State) (x : StructNo) (id : ℕ) (m : Message) (mark : Mark) (sound : IsSound s) → AreFitting s → IsAtRest x s → MarkNames sound.steady.rest.failed (λ k w. task_at k w s.parts.managers) (structure_number x, id) m mark → is_pending mark ≡ false
-quiet_by s x id m Visible sound fits rest named = refl
-quiet_by s x id m (PutBy v) sound fits rest named = absurd (none_named s v (λ task. PutsBy task.stage task.ops task.claims (structure_number x, id) m) sound fits
+quiet_by : (s : State) (x : StructNo) (id : ℕ) (m : Message) (mark : Mark) (sound : IsSound s) (l : IsLawful s.parts) → AreFitting s → IsAtRest x s → MarkNames l.rest.failed (λ k w. task_at k w s.parts.managers) (structure_number x, id) m mark → is_pending mark ≡ false
+quiet_by s x id m Visible sound l fits rest named = refl
+quiet_by s x id m (PutBy v) sound l fits rest named = absurd (none_named s v (λ task. PutsBy task.stage task.ops task.claims (structure_number x, id) m) sound l fits
     (λ t has due.
     let task = task_at v.member t s.parts.managers in
-    puts_none sound.steady.rest.history x id m task.stage task.ops task.claims (λ open_yet. (sound.steady.laws.ready v t has open_yet).matched) (rest v.member t) due) named)
-quiet_by s x id m (GotBy v) sound fits rest named = absurd (none_named s v (λ task. GetsBy task.stage task.ops task.claims (structure_number x, id)) sound fits
+    puts_none l.rest.history x id m task.stage task.ops task.claims (λ open_yet. (l.laws.ready v t has open_yet).matched) (rest v.member t) due) named)
+quiet_by s x id m (GotBy v) sound l fits rest named = absurd (none_named s v (λ task. GetsBy task.stage task.ops task.claims (structure_number x, id)) sound l fits
     (λ t has due.
     let task = task_at v.member t s.parts.managers in
-    gets_none sound.steady.rest.history x id task.stage task.ops task.claims (λ open_yet. (sound.steady.laws.ready v t has open_yet).matched) (rest v.member t) due) named)
-quiet_by s x id m Cleanup sound fits rest named = refl
+    gets_none l.rest.history x id task.stage task.ops task.claims (λ open_yet. (l.laws.ready v t has open_yet).matched) (rest v.member t) due) named)
+quiet_by s x id m Cleanup sound l fits rest named = refl
 
-pub quiet_at_rest : (s : State) → IsSound s → AreFitting s → AreQuiet s
-quiet_at_rest s sound fits x rest id e is =
-    let outside = sound.steady.rest.outside in
-    quiet_by s x id.number (held_of outside x e).message e.mark sound fits rest (sound.steady.laws.marked x id.number (held_of outside x e) (entry_is s sound x id (Some e) is))
+pub quiet_at_rest : (s : State) → IsSound s → IsLawful s.parts → AreFitting s → AreQuiet s
+quiet_at_rest s sound l fits x rest id e is =
+    let outside = l.rest.outside in
+    quiet_by s x id.number (held_of outside x e).message e.mark sound l fits rest (l.laws.marked x id.number (held_of outside x e) (entry_is s sound l x id (Some e) is))
 
 -- ---- a unit of the history
 
 -- it belongs to exactly one COMMIT
-pub one_commit : (s : State) (u : UnitName) (ops : List (StructNo × Op)) → IsSound s → AreFitting s → Contains s.parts.history.items (UnitOf u ops) → commits_of u s.courses s.works ≡ 1
-one_commit s u ops sound fits there = fits.once u ∙ once s.parts.history.items u ops (subst Legal sound.steady.mirrored.history sound.steady.laws.legal) there
+pub one_commit : (s : State) (u : UnitName) (ops : List (StructNo × Op)) → IsSound s → IsLawful s.parts → AreFitting s → Contains s.parts.history.items (UnitOf u ops) → commits_of u s.courses s.works ≡ 1
+one_commit s u ops sound l fits there = fits.once u ∙ once s.parts.history.items u ops (subst Legal l.mirrored.history l.laws.legal) there

@@ -34,6 +34,7 @@ use Rattle.qsg_commit.specs.declared.phases.Phase.{Phase as EndPhase}
 use Rattle.qsg_commit.specs.declared.phases.Phase.TheVariants as end_phase
 use Rattle.qsg_works.specs.declared.work.Work.{Work}
 use Rattle.qsg_works.specs.declared.work.Work.TheVariants.{Put, Get, Commit}
+use Rattle.qsg_steady.specs.Steady.{IsLawful}
 use Rattle.qsg_step.specs.States.{State}
 use Rattle.qsg_sound.specs.Sound.{IsHand, IsSound}
 use Rattle.qsg_answered.specs.Telling.{requested, told}
@@ -144,20 +145,20 @@ other_holds m t k w p q ops work move goes differ apart holds =
     (as_it_goes m t p q (λ h. Holds p.objects h (task_at k w p.managers) ops work) goes (λ added. holds_longer p.objects p.history.items added.unit added.ops (task_at k w p.managers) ops work (apart added) holds) holds))
 
 -- two tasks have two units
-units_apart : (s : State) (m : Member) (t : TaskNo) (k : Member) (w : TaskNo) (u v : UnitName) → IsSound s → IsOther m t k w → (task_at m t s.parts.managers).unit ≡ Some v → (task_at k w s.parts.managers).unit ≡ Some u → same_unit u v ≡ false
-units_apart s m t k w u v sound differ holds has = apart_of u v (λ same.
+units_apart : (s : State) (m : Member) (t : TaskNo) (k : Member) (w : TaskNo) (u v : UnitName) → IsSound s → IsLawful s.parts → IsOther m t k w → (task_at m t s.parts.managers).unit ≡ Some v → (task_at k w s.parts.managers).unit ≡ Some u → same_unit u v ≡ false
+units_apart s m t k w u v sound l differ holds has = apart_of u v (λ same.
     let here : (task_at m t s.parts.managers).unit ≡ Some u = holds ∙ ap (λ x. Some x) (sym same) in
     let one = sound.steady.own m t u here in
     let two = sound.steady.own k w u has in
     let first : (task_at u.member t s.parts.managers).unit ≡ Some u = subst (λ x. (task_at x t s.parts.managers).unit ≡ Some u) (sym one) here in
     let second : (task_at u.member w s.parts.managers).unit ≡ Some u = subst (λ x. (task_at x w s.parts.managers).unit ≡ Some u) (sym two) has in
-    differ (ap member_number (sym two ∙ one)) (ap task_number (sound.steady.laws.once u w t second first)))
+    differ (ap member_number (sym two ∙ one)) (ap task_number (l.laws.once u w t second first)))
 
-pub hand_apart : (s : State) (m : Member) (t : TaskNo) (k : Member) (w : TaskNo) (v : UnitName) (work : Option Work) → IsSound s → IsOther m t k w → (task_at m t s.parts.managers).unit ≡ Some v → IsHand k w work s.courses s.parts → IsApartFrom v work
-hand_apart s m t k w v None sound differ holds hand = tt
-hand_apart s m t k w v (Some (Put work)) sound differ holds hand = tt
-hand_apart s m t k w v (Some (Get work)) sound differ holds hand = tt
-hand_apart s m t k w v (Some (Commit work)) sound differ holds hand = by work.phase hand.fits.stands
+pub hand_apart : (s : State) (m : Member) (t : TaskNo) (k : Member) (w : TaskNo) (v : UnitName) (work : Option Work) → IsSound s → IsLawful s.parts → IsOther m t k w → (task_at m t s.parts.managers).unit ≡ Some v → IsHand k w work s.courses s.parts → IsApartFrom v work
+hand_apart s m t k w v None sound l differ holds hand = tt
+hand_apart s m t k w v (Some (Put work)) sound l differ holds hand = tt
+hand_apart s m t k w v (Some (Get work)) sound l differ holds hand = tt
+hand_apart s m t k w v (Some (Commit work)) sound l differ holds hand = by work.phase hand.fits.stands
   where
     here : (u : UnitName) → (task_at work.member work.task s.parts.managers).unit ≡ Some u → (task_at k w s.parts.managers).unit ≡ Some u
     here u has = at_owner (λ x y. (task_at x y s.parts.managers).unit ≡ Some u) (Commit work) k w hand.own has
@@ -168,4 +169,4 @@ hand_apart s m t k w v (Some (Commit work)) sound differ holds hand = by work.ph
     by (end_phase.Settle u count) fits = tt
     by (end_phase.Publish u count) fits = tt
     by end_phase.GiveUp fits = tt
-    by (end_phase.Undo u count) fits = units_apart s m t k w u v sound differ holds (here u (ap (λ (z : Task). z.unit) fits.is))
+    by (end_phase.Undo u count) fits = units_apart s m t k w u v sound l differ holds (here u (ap (λ (z : Task). z.unit) fits.is))

@@ -26,6 +26,7 @@ use Rattle.qsg_parts.specs.Owned.{Owned}
 use Rattle.qsg_works.specs.declared.work.Work.{Work}
 use Rattle.qsg_works.specs.Steps.{NextWork}
 use Rattle.qsg_fit.specs.Fits.{member_of, task_of}
+use Rattle.qsg_steady.specs.Steady.{AreTelling, IsLawful}
 use Rattle.qsg_step.specs.declared.asked.Asked.{Asked}
 use Rattle.qsg_step.specs.declared.asked.Asked.TheVariants as asks
 use Rattle.qsg_step.specs.declared.step.Step.{Step}
@@ -47,6 +48,7 @@ use Rattle.qsg_answered.proofs.Outcomes.{Goes, Moves}
 use Rattle.qsg_sound.proofs.Owning.{at_owner, at_work}
 use Rattle.qsg_answered.proofs.Staying.{leaves_out_stays}
 use Rattle.qsg_answered.proofs.Taking.{IsTaken, taken_is}
+use Rattle.qsg_answered.proofs.Tellers.{step_leaves_telling}
 use Rattle.qsg_answered.proofs.Working.{work_moves, failed_goes}
 
 pub new_answers_fit : (s : State) → IsNewState s → AreFitting s
@@ -63,35 +65,35 @@ holds_there : (m : Member) (t : TaskNo) (d : Directive) (ops : List (StructNo ×
     → Holds s.parts.objects s.parts.history.items (task_at (member_of before) (task_of before) s.parts.managers) ops (Some before)
 holds_there m t d ops before s taken = at_work (λ k w. Holds s.parts.objects s.parts.history.items (task_at k w s.parts.managers) ops (Some before)) before m t taken.own taken.holds
 
-moves_there : (m : Member) (t : TaskNo) (d : Directive) (before work : Work) (q : Owned) (result : Turn) (s : State) → IsSound s → AreFitting s → IsTaken m t d (pending_of s.parts.objects m t s.courses) before s → NextWork before s.parts (Ok result) work q
+moves_there : (m : Member) (t : TaskNo) (d : Directive) (before work : Work) (q : Owned) (result : Turn) (s : State) → IsSound s → IsLawful s.parts → AreFitting s → IsTaken m t d (pending_of s.parts.objects m t s.courses) before s → NextWork before s.parts (Ok result) work q
     → Moves m t (pending_of s.parts.objects m t s.courses) before work s.parts q result
-moves_there m t d before work q result s sound fits taken next =
+moves_there m t d before work q result s sound l fits taken next =
     let ops = pending_of s.parts.objects m t s.courses in
     at_owner (λ k w. Moves k w ops before work s.parts q result) before m t taken.own
-    (work_moves _ _ ops s.parts q before work result sound.steady taken.ready fits.inside (holds_there m t d ops before s taken) next)
+    (work_moves _ _ ops s.parts q before work result sound.steady l taken.ready fits.inside (holds_there m t d ops before s taken) next)
 
-work_fits : (m : Member) (t : TaskNo) (d : Directive) (before work : Work) (result : Result Turn StepError) (q : Owned) (s : State) (step : Step) (r : State) → IsSound s → AreFitting s → next_of (actor.Task m t) s.courses ≡ Some d
+work_fits : (m : Member) (t : TaskNo) (d : Directive) (before work : Work) (result : Result Turn StepError) (q : Owned) (s : State) (step : Step) (r : State) → IsSound s → IsLawful s.parts → AreFitting s → next_of (actor.Task m t) s.courses ≡ Some d
     → IsTaken m t d (pending_of s.parts.objects m t s.courses) before s → NextWork before s.parts result work q → IsAfter m t d result work q s step r → AreFitting r
-work_fits m t d before work (Ok turn.More) q s step r sound fits next taken made after =
-    subst AreFitting (sym after.1) (goes_fitting m t before work q s.failed s sound fits taken.commits (moves_there m t d before work q turn.More s sound fits taken made))
-work_fits m t d before work (Ok (turn.Ended said)) q s step r sound fits next taken made after =
+work_fits m t d before work (Ok turn.More) q s step r sound l fits next taken made after =
+    subst AreFitting (sym after.1) (goes_fitting m t before work q s.failed s sound l fits taken.commits (moves_there m t d before work q turn.More s sound l fits taken made))
+work_fits m t d before work (Ok (turn.Ended said)) q s step r sound l fits next taken made after =
     let found = next_is (actor.Task m t) d s next in
-    subst AreFitting (sym after.1) (answered_fitting m t d before said found.0 q s sound fits found.1 taken (moves_there m t d before work q (turn.Ended said) s sound fits taken made))
-work_fits m t d before work (Ok (turn.Waits cause)) q s step r sound fits next taken made after = subst AreFitting (sym after.1) fits
-work_fits m t d before work (Err LogFailed) q s step r sound fits next taken made after =
+    subst AreFitting (sym after.1) (answered_fitting m t d before said found.0 q s sound l fits found.1 taken (moves_there m t d before work q (turn.Ended said) s sound l fits taken made))
+work_fits m t d before work (Ok (turn.Waits cause)) q s step r sound l fits next taken made after = subst AreFitting (sym after.1) fits
+work_fits m t d before work (Err LogFailed) q s step r sound l fits next taken made after =
     let ops = pending_of s.parts.objects m t s.courses in
     subst AreFitting (sym after.1)
-    (goes_fitting m t before work q (with_failed m true s.failed) s sound fits taken.commits
+    (goes_fitting m t before work q (with_failed m true s.failed) s sound l fits taken.commits
     (at_owner (λ k w. Goes k w ops before work s.parts q) before m t taken.own (failed_goes ops s.parts q before work (holds_there m t d ops before s taken) made)))
-work_fits m t d before work (Err NoMemory) q s step r sound fits next taken made after = absurd after
+work_fits m t d before work (Err NoMemory) q s step r sound l fits next taken made after = absurd after
 
-work_steps : (s r : State) (m : Member) (t : TaskNo) (d : Directive) (step : Step) → IsSound s → AreFitting s → next_of (actor.Task m t) s.courses ≡ Some d → member_number m ≤ length s.parts.managers → WorkSteps m t d (work_before m t d s) s step r → AreFitting r
-work_steps s r m t d step sound fits next there steps = by (work_before m t d s) refl steps
+work_steps : (s r : State) (m : Member) (t : TaskNo) (d : Directive) (step : Step) → IsSound s → IsLawful s.parts → AreFitting s → next_of (actor.Task m t) s.courses ≡ Some d → member_number m ≤ length s.parts.managers → WorkSteps m t d (work_before m t d s) s step r → AreFitting r
+work_steps s r m t d step sound l fits next there steps = by (work_before m t d s) refl steps
   where
     by : (before : Option Work) → work_before m t d s ≡ before → WorkSteps m t d before s step r → AreFitting r
     by None given made = absurd made
     by (Some before) given made =
-        work_fits m t d before made.work made.result made.parts s step r sound fits next (taken_is m t d (pending_of s.parts.objects m t s.courses) before s sound there next (fits.tasks m t) given) made.next made.after
+        work_fits m t d before made.work made.result made.parts s step r sound l fits next (taken_is m t d (pending_of s.parts.objects m t s.courses) before s sound there next (fits.tasks m t) given) made.next made.after
 
 -- ---- an answer without a request
 
@@ -120,27 +122,33 @@ answer_fits who d said s fits next none ends = let found = next_is who d s next 
 
 -- ---- a step
 
-asked_steps : (s r : State) (who : Actor) (d : Directive) (a : Asked) (step : Step) → IsSound s → AreFitting s → next_of who s.courses ≡ Some d → is_up who s ≡ true → asked who d ≡ a → StepAsked who d a s step r → AreFitting r
-asked_steps s r who d (asks.Work m t) step sound fits next up is steps =
+asked_steps : (s r : State) (who : Actor) (d : Directive) (a : Asked) (step : Step) → IsSound s → IsLawful s.parts → AreFitting s → next_of who s.courses ≡ Some d → is_up who s ≡ true → asked who d ≡ a → StepAsked who d a s step r → AreFitting r
+asked_steps s r who d (asks.Work m t) step sound l fits next up is steps =
     let own = subst (IsOwn who) is (asked_own who d) in
-    work_steps s r m t d step sound fits (subst (λ (x : Actor). next_of x s.courses ≡ Some d) own next) (up_within m t s (subst (λ (x : Actor). is_up x s ≡ true) own up)) steps
-asked_steps s r who d (asks.Until other n) step sound fits next up is steps =
+    work_steps s r m t d step sound l fits (subst (λ (x : Actor). next_of x s.courses ≡ Some d) own next) (up_within m t s (subst (λ (x : Actor). is_up x s ≡ true) own up)) steps
+asked_steps s r who d (asks.Until other n) step sound l fits next up is steps =
     let none = subst (IsNone who d) is (none_asked who d) in
     subst AreFitting (sym steps.1) (answer_fits who d reply.Done s fits next none.0 (subst (λ (b : Bool). EndsOther b reply.Done) (sym none.1) tt))
-asked_steps s r who d asks.Later step sound fits next up is steps =
+asked_steps s r who d asks.Later step sound l fits next up is steps =
     let none = subst (IsNone who d) is (none_asked who d) in
     subst AreFitting (sym steps.1) (answer_fits who d (reply.Refused NotYet) s fits next none.0 none.1)
 
-pub step_keeps_fitting : (s r : State) (who : Actor) (step : Step) → IsSound s → IsSound r → AreFitting s → IsStep who s step r → AreFitting r
-step_keeps_fitting s r who step sound after fits steps = by (next_of who s.courses) refl steps
+step_fits : (s r : State) (who : Actor) (step : Step) → IsSound s → IsLawful s.parts → AreFitting s → IsStep who s step r → AreFitting r
+step_fits s r who step sound l fits steps = by (next_of who s.courses) refl steps
   where
     unless : (d : Directive) (cause : Option Cause) → next_of who s.courses ≡ Some d → cause_of who (asked who d) s ≡ cause → StepUnless who d cause s step r → AreFitting r
-    unless d None next free made = asked_steps s r who d (asked who d) step sound fits next (up_unless who (asked who d) s free) refl made
+    unless d None next free made = asked_steps s r who d (asked who d) step sound l fits next (up_unless who (asked who d) s free) refl made
     unless d (Some cause) next waits made = subst AreFitting (sym made.1) fits
 
     by : (next : Option Directive) → next_of who s.courses ≡ next → StepAt who next s step r → AreFitting r
     by None is made = subst AreFitting (sym made.1) fits
     by (Some d) is made = unless d (cause_of who (asked who d) s) is refl made
+
+-- where logs tell their bytes after a step, they told them before it
+pub step_keeps_fitting : (s r : State) (who : Actor) (step : Step) → IsSound s → IsSound r → (AreTelling s.parts → AreFitting s) → IsStep who s step r → AreTelling r.parts → AreFitting r
+step_keeps_fitting s r who step sound after fits steps telling =
+    let before = step_leaves_telling s r who step steps telling in
+    step_fits s r who step sound (sound.steady.lawful before) (fits before) steps
 
 -- ---- more room
 
@@ -157,6 +165,7 @@ room_fits s room fits =
       unfailed = fits.unfailed;
     }
 
-pub roomy_fitting : (s r : State) → IsSound s → AreFitting s → IsUnmade s r → AreFitting r
-roomy_fitting s r sound fits unmade =
-    subst AreFitting (sym unmade.others) (subst (λ (x : Owned). AreFitting (record s { parts = x })) (sym unmade.parts.same) (room_fits s r.parts.history.room fits))
+pub roomy_fitting : (s r : State) → IsSound s → (AreTelling s.parts → AreFitting s) → IsUnmade s r → AreTelling r.parts → AreFitting r
+roomy_fitting s r sound fits unmade telling =
+    subst AreFitting (sym unmade.others)
+    (subst (λ (x : Owned). AreFitting (record s { parts = x })) (sym unmade.parts.same) (room_fits s r.parts.history.room (fits (subst AreTelling unmade.parts.same telling))))

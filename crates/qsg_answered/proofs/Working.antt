@@ -12,7 +12,7 @@ use Rattle.qsg_group.specs.declared.tasks.Task.{Task}
 use Rattle.qsg_manager.specs.Storage.{task_at}
 use Rattle.qsg_logs.specs.Held.{is_open}
 use Rattle.qsg_parts.specs.Owned.{Owned, HasMember}
-use Rattle.qsg_steady.specs.Steady.{IsSteady}
+use Rattle.qsg_steady.specs.Steady.{IsLawful, IsSteady}
 use Rattle.qsg_put.specs.Steps.{Next as NextPut}
 use Rattle.qsg_put.specs.Works.{Work as PutWork}
 use Rattle.qsg_get.specs.declared.phases.Phase.{Phase as GetPhase}
@@ -75,37 +75,37 @@ put_next a b ops p q old new turn s has holds next =
     let there = subst (λ (x : NextPut). Moves old.member old.task ops (Put old) (Put (record old { phase = x.phase })) p x.parts x.turn) (sym next.1) made in
     subst (λ (x : PutWork). Moves old.member old.task ops (Put old) (Put x) p q turn) (sym next.0) there
 
-get_next : (a b : ℕ) (ops : List (StructNo × Op)) (p q : Owned) (old new : GetWork) (turn : Turn) → IsSteady a b p → IsReady (Get old) p → AllByRecursion AreInside p.structures
+get_next : (a b : ℕ) (ops : List (StructNo × Op)) (p q : Owned) (old new : GetWork) (turn : Turn) → IsSteady a b p → IsLawful p → IsReady (Get old) p → AllByRecursion AreInside p.structures
     → Holds p.objects p.history.items (task_at old.member old.task p.managers) ops (Some (Get old)) → NextWork (Get old) p (Ok turn) (Get new) q → Moves old.member old.task ops (Get old) (Get new) p q turn
-get_next a b ops p q old new turn s ready inside holds next =
-    let made = get_moves a b ops p old s ready.0 ready.1 holds inside in
+get_next a b ops p q old new turn s l ready inside holds next =
+    let made = get_moves a b ops p old s l ready.0 ready.1 holds inside in
     let there = subst (λ (x : NextGet). Moves old.member old.task ops (Get old) (Get (record old { phase = x.phase })) p x.parts x.turn) (sym next.1) made in
     subst (λ (x : GetWork). Moves old.member old.task ops (Get old) (Get x) p q turn) (sym next.0) there
 
-end_at : (a b : ℕ) (m : Member) (t : TaskNo) (ops : List (StructNo × Op)) (p q : Owned) (before phase : EndPhase) (turn : Turn) → IsSteady a b p → HasMember m p → IsOwnEnd m before → FitsEnd (task_at m t p.managers) before
+end_at : (a b : ℕ) (m : Member) (t : TaskNo) (ops : List (StructNo × Op)) (p q : Owned) (before phase : EndPhase) (turn : Turn) → IsSteady a b p → IsLawful p → HasMember m p → IsOwnEnd m before → FitsEnd (task_at m t p.managers) before
     → HoldsEnd p.history.items (task_at m t p.managers) ops before → NextAt m t before p (Ok turn) phase q → EndMoves m t ops before p turn phase q
-end_at a b m t ops p q Latch phase turn s has own fits holds next = latch_moves a b m t ops p q turn phase s has holds next
-end_at a b m t ops p q (Pages u count) phase turn s has own fits holds next = page_moves a b m t ops p q u count turn phase s has own fits holds.0 holds.1 next
-end_at a b m t ops p q (Settle u count) phase turn s has own fits holds next = end_is m t ops (Settle u count) p turn phase q (after_settle t u count p) next (settle_moves a b m t ops p u count s has own holds)
-end_at a b m t ops p q (Publish u count) phase turn s has own fits holds next = end_is m t ops (Publish u count) p turn phase q (after_publish t u count p) next (publish_moves a b m t ops p u count s has own holds.committed)
-end_at a b m t ops p q GiveUp phase turn s has own fits holds next = end_is m t ops GiveUp p turn phase q (after_give_up t (pending (task_at m t p.managers)) p) next (give_up_moves a b m t ops p s has fits holds)
-end_at a b m t ops p q (Undo u count) phase turn s has own fits holds next =
+end_at a b m t ops p q Latch phase turn s l has own fits holds next = latch_moves a b m t ops p q turn phase s has holds next
+end_at a b m t ops p q (Pages u count) phase turn s l has own fits holds next = page_moves a b m t ops p q u count turn phase s l has own fits holds.0 holds.1 next
+end_at a b m t ops p q (Settle u count) phase turn s l has own fits holds next = end_is m t ops (Settle u count) p turn phase q (after_settle t u count p) next (settle_moves a b m t ops p u count s has own holds)
+end_at a b m t ops p q (Publish u count) phase turn s l has own fits holds next = end_is m t ops (Publish u count) p turn phase q (after_publish t u count p) next (publish_moves a b m t ops p u count s has own holds.committed)
+end_at a b m t ops p q GiveUp phase turn s l has own fits holds next = end_is m t ops GiveUp p turn phase q (after_give_up t (pending (task_at m t p.managers)) p) next (give_up_moves a b m t ops p s l has fits holds)
+end_at a b m t ops p q (Undo u count) phase turn s l has own fits holds next =
     end_is m t ops (Undo u count) p turn phase q (after_undo t u count (Undo u count) p) next
-    (undo_moves a b m t ops p u count s has own (ap (λ (z : Task). z.unit) fits.is) holds.0 holds.1)
+    (undo_moves a b m t ops p u count s l has own (ap (λ (z : Task). z.unit) fits.is) holds.0 holds.1)
 
-end_next : (a b : ℕ) (ops : List (StructNo × Op)) (p q : Owned) (old new : EndWork) (turn : Turn) → IsSteady a b p → IsReady (Commit old) p → Holds p.objects p.history.items (task_at old.member old.task p.managers) ops (Some (Commit old))
+end_next : (a b : ℕ) (ops : List (StructNo × Op)) (p q : Owned) (old new : EndWork) (turn : Turn) → IsSteady a b p → IsLawful p → IsReady (Commit old) p → Holds p.objects p.history.items (task_at old.member old.task p.managers) ops (Some (Commit old))
     → NextWork (Commit old) p (Ok turn) (Commit new) q → Moves old.member old.task ops (Commit old) (Commit new) p q turn
-end_next a b ops p q old new turn s ready holds next =
+end_next a b ops p q old new turn s l ready holds next =
     let same : new ≡ in_phase old.member old.task new.phase = λ i. record { member = next.member i; task = next.task i; phase = new.phase } in
     subst (λ (x : EndWork). Moves old.member old.task ops (Commit old) (Commit x) p q turn) (sym same)
-    (end_at a b old.member old.task ops p q old.phase new.phase turn s ready.0 ready.1.0 ready.1.1 holds next.next)
+    (end_at a b old.member old.task ops p q old.phase new.phase turn s l ready.0 ready.1.0 ready.1.1 holds next.next)
 
-pub work_moves : (a b : ℕ) (ops : List (StructNo × Op)) (p q : Owned) (before work : Work) (turn : Turn) → IsSteady a b p → IsReady before p → AllByRecursion AreInside p.structures
+pub work_moves : (a b : ℕ) (ops : List (StructNo × Op)) (p q : Owned) (before work : Work) (turn : Turn) → IsSteady a b p → IsLawful p → IsReady before p → AllByRecursion AreInside p.structures
     → Holds p.objects p.history.items (task_at (member_of before) (task_of before) p.managers) ops (Some before) → NextWork before p (Ok turn) work q → Moves (member_of before) (task_of before) ops before work p q turn
-work_moves a b ops p q (Put old) (Put new) turn s ready inside holds next = put_next a b ops p q old new turn s ready holds next
-work_moves a b ops p q (Get old) (Get new) turn s ready inside holds next = get_next a b ops p q old new turn s ready inside holds next
-work_moves a b ops p q (Commit old) (Commit new) turn s ready inside holds next = end_next a b ops p q old new turn s ready holds next
-work_moves a b ops p q before work turn s ready inside holds next = absurd next
+work_moves a b ops p q (Put old) (Put new) turn s l ready inside holds next = put_next a b ops p q old new turn s ready holds next
+work_moves a b ops p q (Get old) (Get new) turn s l ready inside holds next = get_next a b ops p q old new turn s l ready inside holds next
+work_moves a b ops p q (Commit old) (Commit new) turn s l ready inside holds next = end_next a b ops p q old new turn s l ready holds next
+work_moves a b ops p q before work turn s l ready inside holds next = absurd next
 
 -- ---- a page that failed
 

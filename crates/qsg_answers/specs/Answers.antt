@@ -1,7 +1,10 @@
 -- the texts of answers. Each word has its blank before it, and each line ends with a line feed.
 use Rattle.std.specs.Prelude.{ℕ, ◌+◌, Bool, List, [], ◌∷◌, ◌++◌, codes, Some, None}
 use Rattle.std.specs.Fmt.{decimal}
+use Rattle.qsg_num.specs.declared.ids.PageNo.{PageNo}
 use Rattle.qsg_num.specs.declared.seats.Priority.{Priority}
+use Rattle.qsg_num.specs.declared.words.LogWhy.{LogWhy}
+use Rattle.qsg_num.specs.declared.words.LogWhy.TheVariants as log
 use Rattle.qsg_num.specs.Seats.{priority_number}
 use Rattle.qsg_msg.specs.declared.message.Message.{Message}
 use Rattle.qsg_offload.specs.declared.rule.Placed.{Placed}
@@ -15,7 +18,7 @@ use Rattle.qsg_requests.specs.declared.replies.Reply.TheVariants as reply
 use Rattle.qsg_requests.specs.declared.transcript.Answer.{Answer}
 use Rattle.qsg_requests.specs.declared.transcript.Verb.{Verb}
 use Rattle.qsg_requests.specs.declared.transcript.Verb.TheVariants as verb
-use Rattle.qsg_answers.specs.Labels.{Labelling, unit_text}
+use Rattle.qsg_answers.specs.Labels.{Labelling, member_text, incarnation_text, unit_text}
 use Rattle.qsg_answers.specs.Texts.{id_text, identifier_text, body_text, flag_text}
 
 -- a directive is its first word; what a system task does has none
@@ -54,20 +57,35 @@ depth_text depth = codes " depth " ++ decimal depth
 abbrev pub need_text : ℕ → ℕ → List ℕ
 need_text need free = codes " need " ++ decimal need ++ codes " free " ++ decimal free
 
+-- the place of a fault: a page, and a byte of it or of a record that ends in it
+abbrev pub place_at : PageNo → ℕ → List ℕ
+place_at page at = decimal page.number ++ codes " at " ++ decimal at
+
+-- why a log can't be read on
+abbrev pub why_text : LogWhy → List ℕ
+why_text log.Device = codes " device"
+why_text (log.BadPage page at) = codes " page " ++ place_at page at
+why_text (log.BadRecord page at) = codes " record " ++ place_at page at
+
 -- a reason is its code, or its word where it has none
-abbrev pub reason_text : Reason → List ℕ
-reason_text reason.GetInhibited = codes " 2016"
-reason_text reason.SyncpointLimit = codes " 2024"
-reason_text reason.BodyTooLong = codes " 2030"
-reason_text reason.NoMessage = codes " 2033"
-reason_text reason.PersistentNotAllowed = codes " 2048"
-reason_text reason.PutInhibited = codes " 2051"
-reason_text (reason.QueueFull depth) = codes " 2053" ++ depth_text depth
-reason_text reason.UnknownObject = codes " 2085"
-reason_text (reason.StorageFull place need free) = codes " 2192" ++ short_text place ++ need_text need free
-reason_text reason.StructureFailed = codes " 2373"
-reason_text (reason.NoLog need free) = codes " NOLOG" ++ need_text need free
-reason_text reason.NotYet = codes " NOTYET"
+abbrev pub reason_text : Labelling → Reason → List ℕ
+reason_text labels reason.ConnectionBroken = codes " 2009"
+reason_text labels reason.GetInhibited = codes " 2016"
+reason_text labels reason.SyncpointLimit = codes " 2024"
+reason_text labels reason.BodyTooLong = codes " 2030"
+reason_text labels reason.NoMessage = codes " 2033"
+reason_text labels reason.PersistentNotAllowed = codes " 2048"
+reason_text labels reason.PutInhibited = codes " 2051"
+reason_text labels (reason.QueueFull depth) = codes " 2053" ++ depth_text depth
+reason_text labels reason.UnknownObject = codes " 2085"
+reason_text labels (reason.StorageFull place need free) = codes " 2192" ++ short_text place ++ need_text need free
+reason_text labels reason.StructureFailed = codes " 2373"
+reason_text labels (reason.NoLog need free) = codes " NOLOG" ++ need_text need free
+reason_text labels reason.Down = codes " DOWN"
+reason_text labels reason.Up = codes " UP"
+reason_text labels (reason.LogFault m why) = codes " LOGFAULT " ++ member_text labels m ++ why_text why
+reason_text labels (reason.GaveUp m i why) = codes " GAVEUP " ++ incarnation_text labels m i ++ why_text why
+reason_text labels reason.NotYet = codes " NOTYET"
 
 -- the kind of a message is its priority, and whether it is persistent
 unfoldable pub kind_text : Priority → Bool → List ℕ
@@ -85,8 +103,10 @@ reply_text labels (reply.PutOk id placed) = codes " OK " ++ id_text id ++ placed
 reply_text labels (reply.Unit None count) = codes " OK - " ++ decimal count
 reply_text labels (reply.Unit (Some u) count) = codes " OK " ++ unit_text labels u ++ codes " " ++ decimal count
 reply_text labels (reply.Got m) = codes " OK " ++ message_text m
+reply_text labels (reply.Started i) = codes " OK " ++ decimal i.number
+reply_text labels (reply.Resolved m i settled) = codes " RESOLVED " ++ incarnation_text labels m i ++ codes " " ++ decimal settled
 reply_text labels reply.Done = codes " OK"
-reply_text labels (reply.Refused reason) = reason_text reason
+reply_text labels (reply.Refused reason) = reason_text labels reason
 
 -- a line feed alone
 abbrev pub line_end : List ℕ

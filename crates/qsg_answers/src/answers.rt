@@ -1,14 +1,14 @@
 //! How requests ended, in lines that are numbered.
 
 ghost use Rattle.std.specs.Prelude.{◌≡◌, ◌++◌, OnOk};
-ghost use Rattle.qsg_answers.specs.Answers.{verb_text, placed_text, short_text, depth_text, need_text, reason_text, kind_text, identifiers_text, message_text, reply_text, answer_text, answers_from};
+ghost use Rattle.qsg_answers.specs.Answers.{verb_text, placed_text, short_text, depth_text, need_text, place_at, why_text, reason_text, kind_text, identifiers_text, message_text, reply_text, answer_text, answers_from};
 
-use crate::labels::{Labels, push_unit};
+use crate::labels::{Labels, push_incarnation, push_member, push_unit};
 use crate::texts::{
     push_body, push_counted, push_flag, push_id, push_identifier, push_number, push_text,
 };
 use qsg_msg::Message;
-use qsg_num::Priority;
+use qsg_num::{LogWhy, PageNo, Priority};
 use qsg_offload::Placed;
 use qsg_requests::{Answer, Reason, Reply, Short, Verb};
 use std::alloc::AllocError;
@@ -73,11 +73,37 @@ fn push_need(out: &mut Vec<u8>, need: u32, free: u32) -> Result<(), AllocError>
     push_counted(out, b" free ", u64::from(free))
 }
 
+/// The place of a fault: a page, and a byte of it or of a record that ends in it.
+fn push_place(out: &mut Vec<u8>, page: PageNo, at: u32) -> Result<(), AllocError>
+    ensures { OnOk result (out.new.items ≡ out.old.items ++ place_at page at) }
+{
+    push_number(out, u64::from(page.number))?;
+    push_counted(out, b" at ", u64::from(at))
+}
+
+/// Why a log can't be read on.
+fn push_why(out: &mut Vec<u8>, why: LogWhy) -> Result<(), AllocError>
+    ensures { OnOk result (out.new.items ≡ out.old.items ++ why_text why) }
+{
+    match why {
+        LogWhy::Device => push_text(out, b" device"),
+        LogWhy::BadPage { page, at } => {
+            push_text(out, b" page ")?;
+            push_place(out, page, at)
+        }
+        LogWhy::BadRecord { page, at } => {
+            push_text(out, b" record ")?;
+            push_place(out, page, at)
+        }
+    }
+}
+
 /// A reason: its code, or its word where it has none.
-fn push_reason(out: &mut Vec<u8>, reason: Reason) -> Result<(), AllocError>
-    ensures { OnOk result (out.new.items ≡ out.old.items ++ reason_text reason) }
+fn push_reason(out: &mut Vec<u8>, labels: &Labels, reason: Reason) -> Result<(), AllocError>
+    ensures { OnOk result (out.new.items ≡ out.old.items ++ reason_text labels.now reason) }
 {
     match reason {
+        Reason::ConnectionBroken => push_text(out, b" 2009"),
         Reason::GetInhibited => push_text(out, b" 2016"),
         Reason::SyncpointLimit => push_text(out, b" 2024"),
         Reason::BodyTooLong => push_text(out, b" 2030"),
@@ -98,6 +124,22 @@ fn push_reason(out: &mut Vec<u8>, reason: Reason) -> Result<(), AllocError>
         Reason::NoLog { need, free } => {
             push_text(out, b" NOLOG")?;
             push_need(out, need, free)
+        }
+        Reason::Down => push_text(out, b" DOWN"),
+        Reason::Up => push_text(out, b" UP"),
+        Reason::LogFault { member, why } => {
+            push_text(out, b" LOGFAULT ")?;
+            push_member(out, labels, member)?;
+            push_why(out, why)
+        }
+        Reason::GaveUp {
+            member,
+            incarnation,
+            why,
+        } => {
+            push_text(out, b" GAVEUP ")?;
+            push_incarnation(out, labels, member, incarnation)?;
+            push_why(out, why)
         }
         Reason::NotYet => push_text(out, b" NOTYET"),
     }
@@ -159,8 +201,20 @@ fn push_reply(out: &mut Vec<u8>, labels: &Labels, reply: &Reply) -> Result<(), A
             push_text(out, b" OK ")?;
             push_message(out, message)
         }
+        Reply::Started { incarnation } => {
+            push_counted(out, b" OK ", u64::from(incarnation.number))
+        }
+        Reply::Resolved {
+            member,
+            incarnation,
+            settled,
+        } => {
+            push_text(out, b" RESOLVED ")?;
+            push_incarnation(out, labels, *member, *incarnation)?;
+            push_counted(out, b" ", u64::from(*settled))
+        }
         Reply::Done => push_text(out, b" OK"),
-        Reply::Refused(reason) => push_reason(out, *reason),
+        Reply::Refused(reason) => push_reason(out, labels, *reason),
     }
 }
 

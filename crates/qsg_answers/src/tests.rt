@@ -3,8 +3,8 @@
 use super::*;
 use qsg_msg::Message;
 use qsg_num::{
-    Actor, Body, EntryId, Incarnation, Member, Name, Priority, QueueName, StructNo, TaskNo,
-    UnitName,
+    Actor, Body, EntryId, Incarnation, LogWhy, Member, Name, PageNo, Priority, QueueName, StructNo,
+    TaskNo, UnitName,
 };
 use qsg_offload::Placed;
 use qsg_requests::{Answer, Cause, Reason, Reply, Short, Verb};
@@ -118,6 +118,70 @@ fn reasons_and_waits(rt: HostRuntime) -> Result<(), Fail> {
     assert_eq!(rt;
         out.as_slice(),
         b"1 PUT 2192 dataset need 2 free 0\nuntil 2 0 7".as_slice()
+    );
+    Ok(())
+}
+
+/// A log of member 1 that can't be read on.
+fn log_fault(why: LogWhy) -> Reply {
+    Reply::Refused(Reason::LogFault {
+        member: Member::One,
+        why,
+    })
+}
+
+#[test]
+fn members_that_end_and_start(rt: HostRuntime) -> Result<(), Fail> {
+    let page = PageNo { number: 3 };
+    let started = Reply::Started {
+        incarnation: Incarnation { number: 2 },
+    };
+    let answers = vec![in rt.alloc();
+        answer(Verb::Commit, Reply::Refused(Reason::ConnectionBroken)),
+        answer(Verb::Crash, Reply::Refused(Reason::Down)),
+        answer(Verb::Start, Reply::Refused(Reason::Up)),
+        answer(Verb::Start, log_fault(LogWhy::Device)),
+        answer(Verb::Start, log_fault(LogWhy::BadPage { page, at: 21 })),
+        answer(Verb::Start, log_fault(LogWhy::BadRecord { page, at: 10 })),
+        answer(Verb::Start, started),
+    ]?;
+    let mut out = Vec::new(rt.alloc());
+    push_answers(&mut out, &labels(rt.alloc())?, answers.as_slice())?;
+    assert_eq!(rt;
+        out.as_slice(),
+        b"1 COMMIT 2009\n2 CRASH DOWN\n3 START UP\n4 START LOGFAULT QM1 device\n5 START LOGFAULT QM1 page 3 at 21\n6 START LOGFAULT QM1 record 3 at 10\n7 START OK 2\n".as_slice()
+    );
+    Ok(())
+}
+
+#[test]
+fn system_tasks(rt: HostRuntime) -> Result<(), Fail> {
+    let labels = labels(rt.alloc())?;
+    let resolved = Reply::Resolved {
+        member: Member::One,
+        incarnation: Incarnation { number: 1 },
+        settled: 2,
+    };
+    let page = PageNo { number: 0 };
+    let gave_up = Reply::Refused(Reason::GaveUp {
+        member: Member::Two,
+        incarnation: Incarnation { number: 4 },
+        why: LogWhy::BadPage { page, at: 2 },
+    });
+    let answers = vec![in rt.alloc();
+        answer(Verb::System, resolved),
+        answer(Verb::System, gave_up),
+    ]?;
+    let mut out = Vec::new(rt.alloc());
+    push_answers(&mut out, &labels, answers.as_slice())?;
+    push_cause(
+        &mut out,
+        &labels,
+        Cause::Reading(Member::Two, TaskNo::System),
+    )?;
+    assert_eq!(rt;
+        out.as_slice(),
+        b"1 RESOLVED QM1/1 2\n2 GAVEUP 2/4 page 0 at 2\nreading 2 0".as_slice()
     );
     Ok(())
 }

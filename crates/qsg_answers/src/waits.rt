@@ -34,5 +34,9 @@ pub fn push_cause(out: &mut Vec<u8>, labels: &Labels, cause: Cause) -> Result<()
             push_actor(out, labels, actor)?;
             push_counted(out, b" ", u64::from(count))
         }
+        Cause::Reading(member, task) => {
+            push_text(out, b"reading ")?;
+            push_actor(out, labels, Actor::Task(member, task))
+        }
     }
 }

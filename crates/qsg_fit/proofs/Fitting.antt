@@ -22,7 +22,7 @@ use Rattle.qsg_logs.proofs.Holding.{never_less}
 use Rattle.qsg_parts.specs.Owned.{Owned, HasMember}
 use Rattle.qsg_steady.specs.Standing.{Stand, pages_of, stand, Spares}
 use Rattle.qsg_steady.specs.Steady.{tasks_of, IsSteady}
-use Rattle.qsg_steady.proofs.Acting.{seen_of, member_five}
+use Rattle.qsg_steady.proofs.Acting.{held_of, member_five}
 use Rattle.qsg_steady.proofs.Gives.{member_has, few, idle_run, idle_next, kept_written, name_left, id_left, slot_left}
 use Rattle.qsg_commit.specs.Fits.{IsServing}
 use Rattle.qsg_commit.proofs.Fitting.{may_step}
@@ -87,7 +87,7 @@ get_ready a b p m t u terms s has ready =
       structure = ready.within;
       log = record { idle = prepared_idle a b p m t u got_record terms.structure s has ready; few = few a b p m u s has };
       reserved = reserved;
-      before = omega (arith, reserved, never_less (tasks_of (manager_in m p.managers)) (log_in m p.logs) t u task.ops task.claims got_record (seen_of a b p m s has).held ready.holds);
+      before = omega (arith, reserved, never_less (tasks_of (manager_in m p.managers)) (log_in m p.logs) t u task.ops task.claims got_record (held_of a b p m s has) ready.holds);
     }
 
 put_may : (a b : ℕ) (p : Owned) (m : Member) (t : TaskNo) (words : PutWords) (phase : PutPhase) → IsSteady a b p → a + b ≤ 2147483648 → HasMember m p → FitsPut m words (stand m t p) phase → puts.MayStepAt m t words p phase
@@ -110,7 +110,7 @@ serving : (a b : ℕ) (p : Owned) (m : Member) → IsSteady a b p → a + b ≤ 
 serving a b p m s bound has = record {
   member = has;
   five = member_five a b p m s has;
-  held = (seen_of a b p m s has).held;
+  held = held_of a b p m s has;
   slots = λ t hardens. slot_left a b p m t s has hardens;
   few = λ t. omega (arith, s.short m t, bound);
   within = λ t. s.within m t;

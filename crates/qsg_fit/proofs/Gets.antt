@@ -31,7 +31,7 @@ use Rattle.qsg_parts.specs.Owned.{Owned, HasMember}
 use Rattle.qsg_steady.specs.Actions.{IsLogKept, got_of}
 use Rattle.qsg_steady.specs.Standing.{pages_of, stand}
 use Rattle.qsg_steady.specs.Steady.{tasks_of, IsSteady}
-use Rattle.qsg_steady.proofs.Acting.{member_five, seen_of}
+use Rattle.qsg_steady.proofs.Acting.{member_five, held_of}
 use Rattle.qsg_steady.proofs.Committing.{counts_steady}
 use Rattle.qsg_steady.proofs.Operating.{got_steady}
 use Rattle.qsg_steady.proofs.Reserving.{reserved_steady, reserved_spares, drawn_steady, drawn_spares, fallen_steady, fallen_spares}
@@ -149,7 +149,7 @@ taking a b t queue select u terms epoch p None (Some e) s has kept ready served 
     let log = log_in m p.logs in
     let c = use_of terms epoch in
     let five = member_five a (b + 1) p m s has in
-    let less = never_less (tasks_of (manager_in m p.managers)) log t u task.ops task.claims got_record (seen_of a (b + 1) p m s has).held ready.holds in
+    let less = never_less (tasks_of (manager_in m p.managers)) log t u task.ops task.claims got_record (held_of a (b + 1) p m s has) ready.holds in
     let enough : need m t p ≤ pages_of (Some u) log.writer.reserved = subst (λ (x : Task). need m t p ≤ pages_of x.unit log.writer.reserved) ready.holds ready.reserved in
     record {
       steady = got_steady a b p t u task.ops task.claims c queue terms.order select e (logged e.head.persistent) s has kept ready.within ready.holds served is

@@ -21,7 +21,7 @@ use Rattle.qsg_parts.specs.Owned.{Owned, HasMember}
 use Rattle.qsg_steady.specs.Actions.{IsLogKept, IsWritten, IsUnwritten}
 use Rattle.qsg_steady.specs.Standing.{SparesOthers}
 use Rattle.qsg_steady.specs.Steady.{tasks_of, IsSteady}
-use Rattle.qsg_steady.proofs.Acting.{member_five, seen_of}
+use Rattle.qsg_steady.proofs.Acting.{member_five, held_of}
 use Rattle.qsg_steady.proofs.Committing.{begun_steady, paged_steady, failed_steady, hardened_steady, roomy_steady, counts_steady}
 use Rattle.qsg_steady.proofs.Spares.{begun_spares, paged_spares, hardened_spares, failed_spares}
 use Rattle.qsg_commit.specs.declared.phases.Phase.{Phase}
@@ -98,7 +98,7 @@ ends_with writer within some = by writer.hand refl within.run some
     by (Some hand) is run some = ends_is writer hand is run.0
 
 in_hand : (a b : ℕ) (p : Owned) (m : Member) (t : TaskNo) → IsSteady a b p → HasMember m p → is_hardening (task_at m t p.managers).stage ≡ true → is_none (log_in m p.logs).writer.hand ≡ false
-in_hand a b p m t s has hardens = by (log_in m p.logs).writer.hand (seen_of a b p m s has).held.hand
+in_hand a b p m t s has hardens = by (log_in m p.logs).writer.hand (held_of a b p m s has).hand
   where
     by : (hand : Option Hand) → IsHandOf (tasks_of (manager_in m p.managers)) hand → is_none hand ≡ false
     by None none = absurd (true≢false (sym hardens ∙ none t))

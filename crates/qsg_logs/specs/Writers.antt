@@ -50,3 +50,7 @@ pub record IsWithin (writer : LogState) : Type 0 where
 -- one of a log of so many pages that has none written
 abbrev pub new_writer : ℕ → LogState
 new_writer size = record { size = size; next = 0; reserved = []; hand = None }
+
+-- one that has nothing in hand and nothing reserved, and writes this page next
+abbrev pub idle_writer : ℕ → ℕ → LogState
+idle_writer size next = record { size = size; next = next; reserved = []; hand = None }

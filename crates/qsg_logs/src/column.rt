@@ -1,20 +1,24 @@
 //! The logs of a group, by the numbers of its members.
 
-ghost use Rattle.std.specs.Prelude.{◌≡◌, ◌<◌, ◌≤◌, ◌+◌, ◌++◌, ℕ, List, true, false, None, Some, IfOk, OnOk, OnErr, IfSome, IsSome, length};
+ghost use Rattle.std.specs.Prelude.{◌≡◌, ◌<◌, ◌≤◌, ◌+◌, ◌++◌, ℕ, List, true, false, None, Some, IfOk, OnOk, OnErr, IfSome, IsErrOf, IsSome, length};
 ghost use Rattle.qsg_num.specs.Seats.{member_number};
-ghost use Rattle.qsg_num.specs.Faults.{HasCause};
+ghost use Rattle.qsg_num.specs.Faults.{HasCause, Rose};
 ghost use Rattle.qsg_disk.specs.Byte.{Byte};
 ghost use Rattle.qsg_logpage.specs.Page.{page_at};
+ghost use Rattle.qsg_logpage.specs.declared.read.ReadError.{ReadError};
 ghost use Rattle.qsg_logpage.specs.Reserved.{besides, pages_for};
 ghost use Rattle.qsg_logpage.specs.Log.{IsTied, advanced, made_safe, pages_written, step_of, in_hand_of, has_run};
 ghost use Rattle.qsg_logs.specs.Writers.{reserve_answer};
 ghost use Rattle.qsg_logs.specs.Kept.{log_in, with_log, need_of, with_reserved, with_record_of, fallen_back, with_begun, with_ended, IsKept};
+ghost use Rattle.qsg_logs.specs.Reading.{IsRead, IsFound};
+ghost use Rattle.qsg_logs.specs.Cuts.{IsCut, restarted};
 
 use crate::member_log::MemberLog;
 use qsg_disk::{Disk, Failed};
 use qsg_logneed::LONGEST_RECORD;
-use qsg_logpage::{InHand, LogStep, NoLog};
-use qsg_num::{Member, PageNo, Pages, TaskNo, UnitName};
+use qsg_logpage::{InHand, LogStep, NoLog, ReadError};
+use qsg_num::{Member, PAGE_NUMBERS, Page, PageNo, Pages, TaskNo, UnitName};
+use std::alloc::Global;
 use std::marker::Model;
 
 /// The logs of the members of a group. A call changes the log of its member alone.
@@ -186,5 +190,53 @@ impl<D: Disk> Logs<D> {
     {
         let log = &mut self.items[member.index()];
         log.end_unit(task, unit);
+    }
+
+    /// How many pages a member's log has.
+    pub fn size(&self, member: Member) -> u32
+        requires within { member_number member ≤ length self.now }
+        ensures { result ≡ (log_in member self.now).writer.size }
+    {
+        self.items[member.index()].size()
+    }
+
+    /// Reads the body of a page of a member's log. None exactly where none stands there. It changes no byte; a failure of
+    /// the device comes only where its count of faults rose.
+    pub fn read_page(
+        &mut self,
+        alloc: Global,
+        member: Member,
+        no: PageNo,
+    ) -> Result<Option<Page>, ReadError>
+        requires within { member_number member ≤ length self.old }
+        ensures others { self.new ≡ with_log member (log_in member self.new) self.old }
+        ensures read { IsRead (log_in member self.old) (log_in member self.new) }
+        ensures found { IfOk result (λ found. IsFound no.number (log_in member self.old) found) }
+        ensures failed { IsErrOf result ReadError.Failed → Rose (log_in member self.old).faults (log_in member self.new).faults }
+    {
+        let log = &mut self.items[member.index()];
+        log.read_page(alloc, no)
+    }
+
+    /// The power of a member's device goes and comes back, and the writer of its log goes on behind the pages that stand
+    /// then. Answers whether the page in hand is one of them. `pick` chooses among the values of bytes that have no safe
+    /// one.
+    pub fn cut(&mut self, member: Member, pick: u64) -> bool
+        requires within { member_number member ≤ length self.old }
+        ensures others { self.new ≡ with_log member (log_in member self.new) self.old }
+        ensures cut { IsCut result (log_in member self.old) (log_in member self.new) }
+    {
+        let log = &mut self.items[member.index()];
+        log.cut(pick)
+    }
+
+    /// The writer of a member's log begins anew at a page, with nothing in hand and nothing reserved.
+    pub fn restart(&mut self, member: Member, next: PageNo)
+        requires within { member_number member ≤ length self.old }
+        requires next { next.number ≤ PAGE_NUMBERS }
+        ensures { self.new ≡ with_log member (restarted next.number (log_in member self.old)) self.old }
+    {
+        let log = &mut self.items[member.index()];
+        log.restart(next);
     }
 }

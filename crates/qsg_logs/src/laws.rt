@@ -1,5 +1,5 @@
 //! What is reserved is for the units of tasks, and each open unit with an operation has what its records and its commit
-//! need: which calls keep that, and what it gives.
+//! need: which calls keep that, and what it gives. Where a log goes on after a power cut.
 
 ghost use Rattle.std.specs.Prelude.{◌≡◌, ◌<◌, ◌≤◌, ℕ, List, [], ◌∷◌, Bool, true, false, Option, None, Some, length, nat_lt};
 ghost use Rattle.qsg_num.specs.declared.ids.UnitName.{UnitName};
@@ -7,7 +7,7 @@ ghost use Rattle.qsg_num.specs.declared.seats.StructNo.{StructNo};
 ghost use Rattle.qsg_num.specs.declared.seats.TaskNo.{TaskNo};
 ghost use Rattle.qsg_model.specs.declared.history.Op.{Op};
 ghost use Rattle.qsg_logpage.specs.Reserved.{besides, pages_for};
-ghost use Rattle.qsg_logpage.specs.Log.{has_run, advanced};
+ghost use Rattle.qsg_logpage.specs.Log.{IsTied, has_run, advanced};
 ghost use Rattle.qsg_group.specs.declared.tasks.Claim.{Claim};
 ghost use Rattle.qsg_group.specs.declared.tasks.Task.{Task};
 ghost use Rattle.qsg_group.specs.Group.{idle};
@@ -15,10 +15,11 @@ ghost use Rattle.qsg_group.specs.Observers.{is_hardening};
 ghost use Rattle.qsg_group.specs.Changes.{open_task, hardening_task};
 ghost use Rattle.qsg_unitlog.specs.Units.{run_pages};
 ghost use Rattle.qsg_group.specs.Observers.{logged_ops};
-ghost use Rattle.qsg_unitlog.specs.Tells.{ends_run};
+ghost use Rattle.qsg_unitlog.specs.Tells.{ends_run, after_cut};
 ghost use Rattle.qsg_logs.specs.Writers.{IsWithin};
 ghost use Rattle.qsg_logs.specs.Kept.{KeptLog, no_fillings, filling_of, need_of, with_reserved, with_record_of, fallen_back, with_begun, with_ended};
 ghost use Rattle.qsg_logs.specs.Held.{HoldsUnit, AreHeld, Sets, Adds, SettlesMarks, logged_by};
+ghost use Rattle.qsg_logs.specs.Cuts.{IsCut};
 
 /// Tasks that hold nothing need nothing reserved.
 pub fn nothing_is_held_at_first()
@@ -100,4 +101,10 @@ pub fn a_unit_that_settles_is_held()
 /// A unit that ends has nothing reserved any more.
 pub fn an_ended_unit_is_held()
     ensures { (old new : TaskNo → Task) (log : KeptLog) (t : TaskNo) (u : UnitName) → AreHeld old log → length log.fillings ≡ 5 → HoldsUnit old u t → is_hardening (old t).stage ≡ false → Sets t idle old new → AreHeld new (with_ended t u log) }
+{}
+
+/// After a power cut of a log that tells its bytes its writer goes on behind the pages that stand.
+pub fn a_cut_log_goes_on_behind_its_pages()
+    ensures writer { (left : Bool) (old new : KeptLog) (keep : ℕ) → IsCut left old new → old.tells ≡ true → IsTied keep old.writer old.bytes → new.writer ≡ after_cut keep old.writer new.bytes }
+    ensures tied { (left : Bool) (old new : KeptLog) (keep : ℕ) → IsCut left old new → old.tells ≡ true → IsTied keep old.writer old.bytes → IsTied keep new.writer new.bytes }
 {}

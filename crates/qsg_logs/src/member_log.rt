@@ -1,24 +1,29 @@
 //! The log of one member.
 
-ghost use Rattle.std.specs.Prelude.{◌≡◌, ◌<◌, ◌≤◌, ◌+◌, ◌*◌, ◌^◌, ◌++◌, ℕ, List, true, false, None, Some, IfOk, OnOk, OnErr, IfSome, IsSome, length};
-ghost use Rattle.qsg_num.specs.Faults.{HasCause};
+ghost use Rattle.std.specs.Prelude.{◌≡◌, ◌<◌, ◌≤◌, ◌+◌, ◌*◌, ◌%◌, ◌^◌, ◌++◌, ℕ, List, true, false, None, Some, IfOk, OnOk, OnErr, IfSome, IsErrOf, IsSome, length};
+ghost use Rattle.qsg_num.specs.Faults.{HasCause, Rose};
 ghost use Rattle.qsg_disk.specs.Byte.{Byte};
 ghost use Rattle.qsg_logpage.specs.Page.{page_at};
+ghost use Rattle.qsg_logpage.specs.declared.read.ReadError.{ReadError};
 ghost use Rattle.qsg_logpage.specs.Reserved.{besides, pages_for};
 ghost use Rattle.qsg_logpage.specs.Log.{LogState, IsTied, advanced, made_safe, pages_written, step_of, in_hand_of, has_run};
 ghost use Rattle.qsg_logs.specs.Writers.{reserve_answer, new_writer, next_after};
 ghost use Rattle.qsg_logs.specs.Kept.{no_fillings, need_of, with_reserved, with_record_of, fallen_back, with_begun, with_ended, filling_of, with_operation, IsKept};
+ghost use Rattle.qsg_logs.specs.Reading.{IsRead, IsFound};
+ghost use Rattle.qsg_logs.specs.Cuts.{IsCut, next_behind, restarted};
 
 use qsg_disk::{Disk, Failed};
 use qsg_logneed::{Filling, LONGEST_RECORD, commit_bytes};
-use qsg_logpage::{InHand, LogStep, LogWriter, NoLog};
-use qsg_num::{PAGE_BYTES, PageNo, Pages, TaskNo, UnitName};
+use qsg_logpage::{InHand, LogStep, LogWriter, NoLog, ReadError, read_page};
+use qsg_num::{PAGE_BYTES, PAGE_NUMBERS, Page, PageNo, Pages, TaskNo, UnitName};
+use qsg_unitlog::power_cut;
+use std::alloc::Global;
 use std::marker::Model;
 
 /// Tasks of a member, its system task among them.
 const ALL_TASKS: usize = 5;
 
-/// What a member keeps of its log. Only `next_step` calls the device, and no call takes memory.
+/// What a member keeps of its log. Of its calls `read_page` alone takes memory.
 #[derive(Drop)]
 pub struct MemberLog<D: Disk> {
     device: D,
@@ -63,6 +68,20 @@ fn page_after(next: PageNo, step: LogStep) -> PageNo
             number: page.number + 1,
         },
         _ => next,
+    }
+}
+
+/// The page that is written next after a power cut, where the page in hand was left whole or not.
+fn page_behind(next: PageNo, left: bool) -> PageNo
+    requires { next_behind left next.number < 2 ^ 32 }
+    ensures { result.number ≡ next_behind left next.number }
+{
+    if left {
+        PageNo {
+            number: next.number + 1,
+        }
+    } else {
+        next
     }
 }
 
@@ -224,5 +243,42 @@ impl<D: Disk> MemberLog<D> {
     {
         self.writer.release(unit);
         self.fillings[usize::from(task.get())] = Filling::new();
+    }
+
+    /// How many pages it has.
+    pub fn size(&self) -> u32
+        ensures { result ≡ self.now.writer.size }
+    {
+        self.device.size() / PAGE_BYTES
+    }
+
+    /// Reads the body of a page. None exactly where none stands there. It changes no byte.
+    pub fn read_page(&mut self, alloc: Global, no: PageNo) -> Result<Option<Page>, ReadError>
+        ensures read { IsRead self.old self.new }
+        ensures found { IfOk result (λ found. IsFound no.number self.old found) }
+        ensures failed { IsErrOf result ReadError.Failed → Rose self.old.faults self.new.faults }
+    {
+        read_page(alloc, &mut self.device, no)
+    }
+
+    /// The power of its device goes and comes back, and its writer goes on behind the pages that stand then. Answers
+    /// whether the page in hand is one of them. `pick` chooses among the values of bytes that have no safe one.
+    pub fn cut(&mut self, pick: u64) -> bool
+        ensures { IsCut result self.old self.new }
+    {
+        let size = self.size();
+        let left = power_cut(&self.writer, &mut self.device, size, pick);
+        self.restart(page_behind(self.next, left));
+        left
+    }
+
+    /// Its writer begins anew at a page, with nothing in hand and nothing reserved.
+    pub fn restart(&mut self, next: PageNo)
+        requires { next.number ≤ PAGE_NUMBERS }
+        ensures { self.new ≡ restarted next.number self.old }
+    {
+        self.writer = LogWriter::new(self.size(), next);
+        self.next = next;
+        self.fillings = [Filling::new(); ALL_TASKS];
     }
 }

@@ -117,5 +117,12 @@ fn a_run_is_written(rt: HostRuntime) {
     if logs.len() == 2 {
         assert_eq!(rt; logs.next_page(Member::One).number, 1);
         assert_eq!(rt; logs.next_page(Member::Two).number, 0);
+        let body = logs.read_page(rt.alloc(), Member::One, KEEP);
+        assert!(rt; matches!(body, Ok(Some(_))));
+        assert_eq!(rt; logs.cut(Member::One, 7), false);
+        assert_eq!(rt; logs.next_page(Member::One).number, 1);
+        logs.restart(Member::One, PageNo { number: 5 });
+        assert_eq!(rt; logs.next_page(Member::One).number, 5);
+        assert_eq!(rt; logs.size(Member::One), 2);
     }
 }

@@ -7,3 +7,5 @@ pub mod Acting
 pub mod Needs
 pub mod Gets
 pub mod Ending
+pub mod Marked
+pub mod Cleared

@@ -9,3 +9,5 @@ pub mod Latches
 pub mod Rests
 pub mod Actions
 pub mod Settles
+pub mod Marked
+pub mod Seats

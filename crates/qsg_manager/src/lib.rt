@@ -35,7 +35,7 @@ pub use latches::{first_needed, latch};
 pub use managers::{Manager, Managers, Tasks, idle_task};
 pub use putting::put_entry;
 pub use settling::{next_claim, settle_next};
-pub use structures::Structures;
+pub use structures::{MarkedEntry, Structures};
 pub use taken::{GetRefused, LONGEST_LIST, Room, Taken, TakenBody};
 pub use units::{back_out_unit, begin_unit, draw_name, finish_unit, harden_unit, settle_unit};
 pub use views::{a_settle_settles, a_take_marks, a_write_adds, an_entry_is_found};

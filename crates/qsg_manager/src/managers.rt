@@ -78,6 +78,17 @@ impl Tasks {
         mem::replace(&mut self.items[usize::from(number.get())], task)
     }
 
+    /// Ends all tasks: each holds nothing then. Takes no memory.
+    pub fn clear(&mut self, alloc: Global)
+        ensures { self.new ≡ replicate 5 idle }
+    {
+        self.items[0] = idle_task(alloc);
+        self.items[1] = idle_task(alloc);
+        self.items[2] = idle_task(alloc);
+        self.items[3] = idle_task(alloc);
+        self.items[4] = idle_task(alloc);
+    }
+
     /// Sets the stage of a task's unit.
     pub fn set_stage(&mut self, number: TaskNo, stage: Stage)
         ensures { self.new ≡ with_task_in number (record (task_in number self.old) { stage = stage }) self.old }
@@ -117,6 +128,7 @@ impl Managers {
     ghost use Rattle.qsg_num.specs.Seats.{member_number};
     ghost use Rattle.qsg_manager.specs.Storage.{task_at, manager_in, with_task, with_drawn, next_name};
     ghost use Rattle.qsg_manager.specs.Units.{with_stage};
+    ghost use Rattle.qsg_manager.specs.Seats.{with_down, with_started};
 
     /// Those of a `Vec`, in order of their numbers. Takes no memory.
     pub fn from_vec(items: Vec<Manager>) -> Managers
@@ -196,5 +208,26 @@ impl Managers {
             incarnation: manager.incarnation,
             seq,
         }
+    }
+
+    /// A member ends: it is down, and its tasks hold nothing. Takes no memory.
+    pub fn end_member(&mut self, alloc: Global, member: Member)
+        requires within { member_number member ≤ length self.old }
+        ensures { self.new ≡ with_down member self.old }
+    {
+        let manager = &mut self.items[member.index()];
+        manager.up = false;
+        manager.tasks.clear(alloc);
+    }
+
+    /// A member is up in an incarnation, and has drawn none of its units' names.
+    pub fn start_member(&mut self, member: Member, incarnation: Incarnation)
+        requires within { member_number member ≤ length self.old }
+        ensures { self.new ≡ with_started member incarnation self.old }
+    {
+        let manager = &mut self.items[member.index()];
+        manager.up = true;
+        manager.incarnation = incarnation;
+        manager.next = 1;
     }
 }

@@ -1,11 +1,23 @@
 //! The list structures of a group, by their numbers.
 
-ghost use Rattle.std.specs.Prelude.{◌≡◌, ◌≤◌, ◌<◌, ◌+◌, ◌-◌, ◌^◌, ℕ, List, OnOk, OnErr, IfOk, IfErr, None, option_map, length, slice_set};
+ghost use Rattle.std.specs.Prelude.{◌≡◌, ◌≤◌, ◌<◌, ◌+◌, ◌*◌, ◌-◌, ◌^◌, ℕ, List, OnOk, OnErr, IfOk, IfErr, None, option_map, length, slice_set};
+ghost use Rattle.qsg_lists.specs.Marks.{names_member};
+ghost use Rattle.qsg_manager.specs.Marked.{marked_entry, marks_in, marks_of};
 
 use crate::taken::{Room, Taken};
-use qsg_lists::{Connection, Head, Lost, Place, Seen, Selector, Settled, Structure, WriteRefused};
-use qsg_num::{Delivery, EntryId, StructNo, UnitName};
+use qsg_lists::{
+    Connection, Entry, Head, Lost, Mark, Place, Seen, Selector, Settled, Structure, WriteRefused,
+};
+use qsg_num::{Delivery, EntryId, Incarnation, Member, StructNo, UnitName};
 use std::marker::Model;
+
+/// An entry that a unit has marked.
+#[derive(Clone, Copy, Debug, PartialEq, Eq)]
+pub struct MarkedEntry {
+    pub id: EntryId,
+    /// The unit that the mark names.
+    pub unit: UnitName,
+}
 
 /// The list structures of a group, by their numbers.
 #[derive(Drop)]
@@ -22,6 +34,61 @@ impl Model for Structures {
     ghost view = { λ s. s.items.items };
 }
 
+/// The unit that an entry's mark names, if it names one.
+fn marked_entry(entry: &Entry) -> Option<MarkedEntry>
+    ensures { result ≡ marked_entry entry.now }
+{
+    match entry.mark {
+        Mark::PutBy(unit) | Mark::GotBy(unit) => Some(MarkedEntry { id: entry.id, unit }),
+        Mark::Visible | Mark::Cleanup => None,
+    }
+}
+
+/// Whether an entry's mark names a unit of this incarnation of the member.
+fn is_marked(entry: &Entry, member: Member, incarnation: Incarnation) -> bool
+    ensures { result ≡ names_member member incarnation entry.now.mark }
+{
+    match entry.mark {
+        Mark::PutBy(unit) | Mark::GotBy(unit) => {
+            unit.member == member && unit.incarnation == incarnation
+        }
+        Mark::Visible | Mark::Cleanup => false,
+    }
+}
+
+/// How many of these entries are marked so.
+fn marks_in(entries: &[Entry], member: Member, incarnation: Incarnation) -> usize
+    ensures { result ≡ marks_in member incarnation entries.now }
+{
+    entries
+        .iter()
+        .filter(|e| is_marked(e, member, incarnation))
+        .count()
+}
+
+/// How many entries of a structure are.
+fn marks_of_one(chosen: &Structure, member: Member, incarnation: Incarnation) -> u32
+    ensures { result ≡ marks_in member incarnation chosen.now.entries }
+{
+    chosen.kept();
+    marks_in(chosen.entries(), member, incarnation) as u32
+}
+
+/// How many entries of these structures are.
+fn marks_of(structures: &[Structure], member: Member, incarnation: Incarnation) -> u64
+    requires few { length structures.now ≤ 4 }
+    ensures sum { result ≡ marks_of member incarnation structures.now }
+    ensures bound { result ≤ length structures.now * 2 ^ 32 }
+{
+    match structures {
+        [] => 0,
+        [chosen, others @ ..] => {
+            u64::from(marks_of_one(chosen, member, incarnation))
+                + marks_of(others, member, incarnation)
+        }
+    }
+}
+
 impl Structures {
     ghost use Rattle.qsg_num.specs.Seats.{structure_number};
     ghost use Rattle.qsg_lists.specs.Structures.{ListStructure, IsSound, connect_answer, lost_of, unless};
@@ -31,6 +98,7 @@ impl Structures {
     ghost use Rattle.qsg_lists.specs.Writing.{write_refusal, next_id, written, IsWhy};
     ghost use Rattle.qsg_manager.specs.Facilities.{structure_in, with_structure};
     ghost use Rattle.qsg_manager.specs.Getting.{found_in, taken_of};
+    ghost use Rattle.qsg_manager.specs.Marked.{marked_above, marks_of};
 
     /// Those of a `Vec`, in order of their numbers. Takes no memory.
     pub fn from_vec(items: Vec<Structure>) -> Structures
@@ -126,6 +194,46 @@ impl Structures {
             Ok(None) => Ok(None),
             Err(lost) => Err(lost),
         }
+    }
+
+    /// The entry of least id above an id whose mark names a unit of this incarnation of the member, and that unit.
+    pub fn marked_after(
+        &self,
+        connection: Connection,
+        member: Member,
+        incarnation: Incarnation,
+        id: EntryId,
+    ) -> Result<Option<MarkedEntry>, Lost>
+        requires within { structure_number connection.structure ≤ length self.now }
+        ensures { result ≡ unless (lost_of (structure_in connection.structure self.now) connection) (marked_above member incarnation id (structure_in connection.structure self.now).entries) }
+    {
+        let chosen = &self.items[connection.structure.index()];
+        Structures::marked_in(chosen, connection, member, incarnation, id)
+    }
+
+    /// The same of one structure.
+    fn marked_in(
+        chosen: &Structure,
+        connection: Connection,
+        member: Member,
+        incarnation: Incarnation,
+        id: EntryId,
+    ) -> Result<Option<MarkedEntry>, Lost>
+        ensures { result ≡ unless (lost_of chosen.now connection) (marked_above member incarnation id chosen.now.entries) }
+    {
+        match chosen.marked_after(connection, member, incarnation, id) {
+            Ok(Some(entry)) => Ok(marked_entry(entry)),
+            Ok(None) => Ok(None),
+            Err(lost) => Err(lost),
+        }
+    }
+
+    /// How many entries of all structures have a mark that names a unit of this incarnation of the member.
+    pub fn count_marks(&self, member: Member, incarnation: Incarnation) -> u64
+        requires few { length self.now ≤ 4 }
+        ensures { result ≡ marks_of member incarnation self.now }
+    {
+        marks_of(self.items.as_slice(), member, incarnation)
     }
 
     /// What every structure keeps.

@@ -19,7 +19,7 @@ use Rattle.qsg_steady.specs.Actions.{IsLogKept}
 use Rattle.qsg_steady.specs.Standing.{stand}
 use Rattle.qsg_steady.specs.Steady.{IsSteady}
 use Rattle.qsg_steady.proofs.Acting.{member_five}
-use Rattle.qsg_steady.proofs.Gives.{page_in_hand}
+use Rattle.qsg_steady.proofs.Gives.{page_in_hand, hardens_alone}
 use Rattle.qsg_put.specs.Steps.{Next as PutNext}
 use Rattle.qsg_get.specs.declared.phases.Phase.{Phase as GetPhase}
 use Rattle.qsg_get.specs.declared.phases.Phase.TheVariants as get_phase
@@ -50,7 +50,7 @@ use Rattle.qsg_pace.proofs.Latch.{latch_step, give_up_step}
 writing : (a b : ℕ) (p : Owned) (m : Member) (t : TaskNo) (u : UnitName) → IsSteady a b p → HasMember m p → IsHardening u (task_at m t p.managers) → IsWriting m t p
 writing a b p m t u s has own =
     let hardens = ap (λ (x : Task). is_hardening x.stage) own.is in
-    record { hardens = hardens; hand = page_in_hand a b p m t s has hardens; only = λ w also. s.laws.latched.one m w t also hardens }
+    record { hardens = hardens; hand = page_in_hand a b p m t s has hardens; only = λ w also. hardens_alone a b p m t w s has hardens also }
 
 abbrev EndsBy : Member → TaskNo → Owned → Phase → Next → Type 0
 EndsBy m t p old n = Ends m t p n.parts n.turn old n.phase

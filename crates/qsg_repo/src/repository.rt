@@ -192,6 +192,13 @@ impl Repo {
         self.holds[member.index()] = NO_HOLDS;
     }
 
+    /// The incarnations that were given, in the order in which they were.
+    pub fn lives(&self) -> &[Life]
+        ensures { result.now ≡ self.now.lives }
+    {
+        self.lives.as_slice()
+    }
+
     /// The least failed and unresolved incarnation, by member and then by number, that isn't in `skip`.
     pub fn first_failed(&self, skip: &Names) -> Option<(Member, Incarnation)>
         ensures { result ≡ first_open skip.now self.now.lives }

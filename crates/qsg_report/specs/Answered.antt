@@ -9,7 +9,6 @@ use Rattle.qsg_model.specs.declared.history.Op.TheVariants.{Put, Got}
 use Rattle.qsg_model.specs.declared.history.Item.{Item}
 use Rattle.qsg_model.specs.declared.history.Item.TheVariants.{Unit as UnitOf, Lost, Purged}
 use Rattle.qsg_requests.specs.declared.transcript.Answer.{Answer}
-use Rattle.qsg_agenda.specs.Courses.{Course, answers_of}
 use Rattle.qsg_answers.specs.Answers.{answers_from, line_end}
 use Rattle.qsg_answers.specs.Labels.{Labelling, structure_text, unit_text}
 use Rattle.qsg_answers.specs.Texts.{id_text}
@@ -23,8 +22,9 @@ heading_text labels Operator = codes "operator" ++ line_end
 abbrev pub transcript_text : Labelling → Actor → List Answer → List ℕ
 transcript_text labels a answers = if length answers == 0 then [] else heading_text labels a ++ answers_from labels 1 answers
 
-abbrev pub transcripts_text : Labelling → List Course → List Actor → List ℕ
-transcripts_text labels courses actors = flat_map (λ a. transcript_text labels a (answers_of a courses)) actors
+-- what each of these actors was answered, in their order
+abbrev pub transcripts_text : Labelling → (Actor → List Answer) → List Actor → List ℕ
+transcripts_text labels told actors = flat_map (λ a. transcript_text labels a (told a)) actors
 
 abbrev pub op_text : Op → List ℕ
 op_text (Put m) = codes " put " ++ id_text m.id

@@ -3,7 +3,7 @@ use Rattle.std.specs.Prelude.{ℕ, List, ◌++◌, codes}
 use Rattle.std.specs.List.{flat_map}
 use Rattle.qsg_num.specs.declared.ids.Actor.{Actor}
 use Rattle.qsg_model.specs.declared.history.Item.{Item}
-use Rattle.qsg_agenda.specs.Courses.{Course}
+use Rattle.qsg_requests.specs.declared.transcript.Answer.{Answer}
 use Rattle.qsg_answers.specs.Answers.{line_end}
 use Rattle.qsg_answers.specs.Labels.{Labelling}
 use Rattle.qsg_report.specs.declared.shown.Shown.{Shown}
@@ -20,15 +20,15 @@ shared_text labels s = flat_map (failure_text labels) s.failed.items ++ flat_map
 unfoldable pub kept_text : Labelling → Shown → List ℕ
 kept_text labels s = flat_map (dataset_text labels) s.datasets.items ++ flat_map log_text s.members.items ++ flat_map member_line s.members.items
 
--- the group, what actors answered, what happened, the state, and how the run ended
-unfoldable pub lines_text : Labelling → List Actor → List Course → List Item → Shown → List ℕ
-lines_text labels actors courses history s =
+-- the group, what each actor was answered, what happened, the state, and how the run ended
+unfoldable pub lines_text : Labelling → List Actor → (Actor → List Answer) → List Item → Shown → List ℕ
+lines_text labels actors told history s =
     codes "group " ++ s.group ++ line_end
-    ++ transcripts_text labels courses actors
+    ++ transcripts_text labels told actors
     ++ flat_map (item_text labels) history
     ++ shared_text labels s
     ++ kept_text labels s
     ++ end_text labels s.waits.items
 
-abbrev pub report_text : List Actor → List Course → List Item → Shown → List ℕ
-report_text actors courses history s = lines_text (labels_of s) actors courses history s
+abbrev pub report_text : List Actor → (Actor → List Answer) → List Item → Shown → List ℕ
+report_text actors told history s = lines_text (labels_of s) actors told history s

@@ -4,13 +4,12 @@ ghost use Rattle.std.specs.Prelude.{◌≡◌, ◌++◌, codes, OnOk};
 ghost use Rattle.std.specs.List.{flat_map};
 ghost use Rattle.qsg_report.specs.Answered.{heading_text, transcript_text, transcripts_text, op_text, ops_text, item_text};
 
-use qsg_agenda::Agenda;
 use qsg_answers::{
     Labels, push_actor, push_answers, push_id, push_structure, push_text, push_unit,
 };
 use qsg_model::{Item, Op};
 use qsg_num::{Actor, StructNo};
-use qsg_requests::Answer;
+use qsg_requests::{Answer, Transcripts};
 use std::alloc::AllocError;
 
 /// The line above an actor's answers.
@@ -44,16 +43,16 @@ fn push_transcript(
 }
 
 /// The answers of these actors.
-pub(crate) fn push_transcripts(
+pub(crate) fn push_transcripts<T: Transcripts>(
     out: &mut Vec<u8>,
     labels: &Labels,
-    agenda: &Agenda,
+    transcripts: &T,
     actors: &[Actor],
 ) -> Result<(), AllocError>
-    ensures { OnOk result (out.new.items ≡ out.old.items ++ transcripts_text labels.now agenda.now actors.now) }
+    ensures { OnOk result (out.new.items ≡ out.old.items ++ transcripts_text labels.now (T.told transcripts.now) actors.now) }
 {
     for actor in actors {
-        push_transcript(out, labels, *actor, agenda.transcript(*actor))?;
+        push_transcript(out, labels, *actor, transcripts.transcript(*actor))?;
     }
     Ok(())
 }

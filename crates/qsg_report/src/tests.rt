@@ -1,17 +1,14 @@
 //! Reports of small groups.
 
 use super::*;
-use qsg_agenda::Agenda;
 use qsg_lists::{Entry, Head, Mark, Place, State};
 use qsg_model::{History, Item, Op, Ops};
 use qsg_num::{
     Actor, Block, Blocks, Bytes, Delivery, EntryId, Incarnation, Member, Name, Priority, QueueName,
     Rules, StructNo, TaskNo, UnitName,
 };
-use qsg_objects::{
-    CfstructDef, Definition, Directive, Directives, Objects, QlocalDef, Size, Sizes, Works,
-};
-use qsg_requests::{Cause, Reply};
+use qsg_objects::{CfstructDef, Definition, Objects, QlocalDef, Size, Sizes};
+use qsg_requests::{Answer, Cause, Reply, Transcripts, Verb};
 use std::alloc::Global;
 use std::test::*;
 
@@ -41,36 +38,93 @@ fn alone(alloc: Global) -> Result<Shown, Fail> {
     })
 }
 
-/// An agenda of one task with one directive.
-fn agenda(alloc: Global) -> Result<Agenda, Fail> {
-    let directives = Directives::from_vec(vec![in alloc; Directive::Commit]?);
-    Ok(Agenda::new(alloc, Works::from_vec(vec![in alloc; (TASK, directives)]?))?)
+/// What a task was answered, and the operator.
+#[derive(Drop)]
+struct Told {
+    task: Vec<Answer>,
+    operator: Vec<Answer>,
+}
+
+impl Transcripts for Told {
+    ghost use Rattle.qsg_num.specs.declared.ids.Actor.TheVariants.{Task, Operator};
+
+    ghost told = { λ t who. elim who [ Task m k ↦ t.task.items | Operator ↦ t.operator.items ] };
+
+    fn transcript(&self, actor: Actor) -> &[Answer] {
+        match actor {
+            Actor::Task(..) => self.task.as_slice(),
+            Actor::Operator => self.operator.as_slice(),
+        }
+    }
 }
 
 #[test]
 fn an_answer_and_a_loss(rt: HostRuntime) -> Result<(), Fail> {
-    let mut agenda = agenda(rt.alloc())?;
-    if agenda.next(TASK).is_some() {
-        agenda.answer(
-            TASK,
-            Reply::Unit {
-                unit: None,
-                count: 0,
-            },
-            0,
-        );
-    }
+    let answer = Answer {
+        verb: Verb::Commit,
+        reply: Reply::Unit {
+            unit: None,
+            count: 0,
+        },
+        at: 0,
+    };
+    let told = Told {
+        task: vec![in rt.alloc(); answer]?,
+        operator: Vec::new(rt.alloc()),
+    };
     let items = vec![in rt.alloc(); Item::Lost(StructNo::Two)]?;
     let text = report(
         rt.alloc(),
         &[TASK, Actor::Operator],
-        &agenda,
+        &told,
         &History::from_vec(items),
         &alone(rt.alloc())?,
     )?;
     assert_eq!(rt;
         text.as_slice(),
         b"group QSG1\ntask QM1 1\n1 COMMIT OK - 0\nlost 2\nlog QM1 pages 2 of 8192\nmember QM1 up 1\nfinished\n".as_slice()
+    );
+    Ok(())
+}
+
+#[test]
+fn a_member_that_was_resolved_for(rt: HostRuntime) -> Result<(), Fail> {
+    let incarnation = Incarnation { number: 1 };
+    let resolved = Answer {
+        verb: Verb::System,
+        reply: Reply::Resolved {
+            member: Member::One,
+            incarnation,
+            settled: 2,
+        },
+        at: 0,
+    };
+    let crash = Answer {
+        verb: Verb::Crash,
+        reply: Reply::Done,
+        at: 0,
+    };
+    let told = Told {
+        task: vec![in rt.alloc(); resolved]?,
+        operator: vec![in rt.alloc(); crash]?,
+    };
+    let mut shown = alone(rt.alloc())?;
+    shown.failed.push(ShownFailure {
+        member: Member::One,
+        incarnation,
+        resolved: true,
+        counts: [0, 2, 0, 0, 0, 0, 0, 1],
+    })?;
+    let text = report(
+        rt.alloc(),
+        &[Actor::Task(Member::One, TaskNo::System), Actor::Operator],
+        &told,
+        &History::new(rt.alloc()),
+        &shown,
+    )?;
+    assert_eq!(rt;
+        text.as_slice(),
+        b"group QSG1\ntask QM1 0\n1 RESOLVED QM1/1 2\noperator\n1 CRASH OK\nfailed QM1/1 resolved 2 2 8 1\nlog QM1 pages 2 of 8192\nmember QM1 up 1\nfinished\n".as_slice()
     );
     Ok(())
 }
@@ -197,9 +251,12 @@ fn a_group_that_is_stuck(rt: HostRuntime) -> Result<(), Fail> {
         actor: TASK,
         cause: Cause::LogBusy(TaskNo::Three),
     })?;
-    let agenda = agenda(rt.alloc())?;
+    let told = Told {
+        task: Vec::new(rt.alloc()),
+        operator: Vec::new(rt.alloc()),
+    };
     let history = History::new(rt.alloc());
-    let text = report(rt.alloc(), &[TASK], &agenda, &history, &shown)?;
+    let text = report(rt.alloc(), &[TASK], &told, &history, &shown)?;
     assert_eq!(rt;
         text.as_slice(),
         b"group QSG1\nfailed 2/4 unresolved QM1 2 3 1\nstructure APP1 inrecover QM1 epoch 1 used 2 of 1000\nentry 0.3 Q1 pri 5 pers 1 got 2/4/1 at QM1 length 70000 blocks 0 7\nqueue Q1 depth 1\ndataset QM1 APP1 used - of 64\nlog QM1 pages 2 of 8192\nmember QM1 up 1\nwaits QM1 1 logbusy 3\nstuck\n".as_slice()

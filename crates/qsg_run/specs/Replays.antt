@@ -10,6 +10,7 @@ use Rattle.qsg_schedule.specs.Course.{Course, listed, seeded}
 use Rattle.qsg_report.specs.declared.shown.Shown.{Shown}
 use Rattle.qsg_report.specs.Report.{report_text}
 use Rattle.qsg_step.specs.States.{State}
+use Rattle.qsg_agenda.specs.Courses.{answers_of}
 use Rattle.qsg_sysplex.specs.Actors.{actors_of}
 use Rattle.qsg_sysplex.specs.Ends.{is_finished}
 use Rattle.qsg_sysplex.specs.Kept.{IsKept}
@@ -37,7 +38,7 @@ pub record IsReported (actors : List Actor) (s : State) (status : Status) (text 
   pub kept : IsKept s
   pub ended : IsEnd s status
   pub seen : IsShown (waits_of actors s) s shown
-  pub report : text ≡ report_text actors s.courses s.parts.history.items shown
+  pub report : text ≡ report_text actors (λ who. answers_of who s.courses) s.parts.history.items shown
 
 -- what a rig tells it was given back: of each member, the bytes of its log
 pub record GivenBack : Type 0 where

@@ -61,7 +61,7 @@ fn report_of<D: Disk + Drop>(
     let shown = shown_of(alloc, sysplex, actors)?;
     Ok(Due {
         status: end_of(sysplex),
-        text: report(alloc, actors, sysplex.agenda(), sysplex.history(), &shown)?,
+        text: report(alloc, actors, sysplex, sysplex.history(), &shown)?,
     })
 }
 

@@ -1,9 +1,11 @@
 -- a task changes whose unit's run isn't in hand
-use Rattle.std.proofs.Common.{◌≡◌, ℕ, ◌+◌, ◌-◌, ◌≤◌, List, length, true, false, Some, refl, sym, ap, subst, ◌∙◌, arith, length-set, true≢false}
-use Rattle.std.specs.List.{AllByRecursion}
+use Rattle.std.proofs.Common.{◌≡◌, ℕ, ◌+◌, ◌-◌, ◌≤◌, List, length, true, false, Some, None, refl, sym, ap, subst, ◌∙◌, arith, length-set, true≢false}
+use Rattle.std.proofs.lemmas.Option.{none-some}
 use Rattle.qsg_num.specs.declared.seats.Member.{Member}
 use Rattle.qsg_num.specs.declared.seats.StructNo.{StructNo}
 use Rattle.qsg_num.specs.declared.seats.TaskNo.{TaskNo}
+use Rattle.qsg_num.specs.declared.seats.TaskNo.TheVariants.{System}
+use Rattle.qsg_num.specs.declared.ids.PageNo.{PageNo}
 use Rattle.qsg_num.specs.declared.ids.UnitName.{UnitName}
 use Rattle.qsg_num.specs.Seats.{member_number, task_number}
 use Rattle.qsg_lists.specs.Structures.{ListStructure}
@@ -11,22 +13,23 @@ use Rattle.qsg_logpage.specs.declared.table.Reservation.{Reservation}
 use Rattle.qsg_logpage.specs.Log.{IsTied}
 use Rattle.qsg_logneed.specs.declared.counting.Filling.{Filling}
 use Rattle.qsg_group.specs.declared.tasks.Task.{Task}
+use Rattle.qsg_group.specs.Group.{idle}
 use Rattle.qsg_group.specs.Observers.{is_hardening}
 use Rattle.qsg_group.specs.Changes.{Change}
 use Rattle.qsg_group.proofs.Keeping.{laws_stay}
 use Rattle.qsg_manager.specs.declared.managers.Manager.{Manager}
 use Rattle.qsg_manager.specs.Facilities.{structure_in}
 use Rattle.qsg_manager.specs.Groups.{group_of}
+use Rattle.qsg_manager.specs.Latches.{needed_by}
 use Rattle.qsg_manager.specs.Storage.{task_in, with_task_in, manager_in, task_at, with_manager, with_task}
 use Rattle.qsg_manager.proofs.Grouping.{manager_same, manager_other}
-use Rattle.qsg_manager.proofs.Needs.{named_stays}
 use Rattle.qsg_logs.specs.Held.{AreHeld}
 use Rattle.qsg_logs.specs.Kept.{KeptLog, log_in, with_log}
 use Rattle.qsg_parts.specs.Owned.{Owned, HasMember}
-use Rattle.qsg_steady.specs.Steady.{tasks_of, IsSeen, IsWithin, IsCounted, IsSteady}
+use Rattle.qsg_steady.specs.Steady.{tasks_of, IsSeen, IsCounted, IsLawful, IsSteady}
 use Rattle.qsg_steady.proofs.Places.{log_same, log_other, task_sets, latch_same, written_same, writing_with}
 use Rattle.qsg_steady.proofs.Seen.{seen_beside}
-use Rattle.qsg_steady.proofs.Moving.{AreBeside, by_member, by_task, seen_same, steady_moved}
+use Rattle.qsg_steady.proofs.Moving.{AreBeside, IsKeptTask, IsTasked, by_member, by_task, task_kept, task_later, behind_sets, steady_moved}
 
 -- the log of a member with these reservations and fillings
 abbrev pub with_kept : Member → List Reservation → List Filling → Owned → KeptLog
@@ -46,8 +49,11 @@ acts m t y ss rs fillings p = record p {
 pub member_five : (a b : ℕ) (p : Owned) (m : Member) → IsSteady a b p → HasMember m p → length (manager_in m p.managers).tasks ≡ 5
 member_five a b p m s has = s.shape.five m has.manager
 
-pub seen_of : (a b : ℕ) (p : Owned) (m : Member) (s : IsSteady a b p) → HasMember m p → IsSeen m (s.rest.logs m) (manager_in m p.managers) p.repo (log_in m p.logs)
-seen_of a b p m s has = s.logs m has.manager
+pub held_of : (a b : ℕ) (p : Owned) (m : Member) → IsSteady a b p → HasMember m p → AreHeld (tasks_of (manager_in m p.managers)) (log_in m p.logs)
+held_of a b p m s has = s.held m has.manager
+
+pub seen_of : (p : Owned) (m : Member) (l : IsLawful p) → HasMember m p → IsSeen m (l.rest.logs m) (manager_in m p.managers) p.repo (log_in m p.logs)
+seen_of p m l has = l.logs m has.manager
 
 -- one member's manager and log are others
 pub beside_at : (p : Owned) (m : Member) (x : Manager) (y : KeptLog) (ss : List ListStructure) → length ss ≡ length p.structures
@@ -85,37 +91,51 @@ counted_at a b c d p m x y ss within next more ids counted = record {
   ids = ids;
 }
 
-pub acted : (a b c d : ℕ) (p : Owned) (m : Member) (t : TaskNo) (y : Task) (ss : List ListStructure) (rs : List Reservation) (fillings : List Filling) (s : IsSteady a b p) → HasMember m p
+-- a manager with a task that is kept
+pub one_tasked : (m : Member) (t : TaskNo) (c n : ℕ) (y : Task) (old : Manager) → length old.tasks ≡ 5 → IsKeptTask m c n old y → IsTasked m t c n old (tasked t y old)
+one_tasked m t c n y old five kept = let sets = task_sets t y old five in record {
+  five = length-set old.tasks (task_number t) y ∙ five;
+  others = sets.others;
+  task = subst (IsKeptTask m c n (tasked t y old)) (sym sets.here) (task_later m c c n n old (tasked t y old) y (omega arith) refl refl refl (omega arith) kept);
+  up = refl;
+  incarnation = refl;
+  next = omega arith;
+}
+
+-- a member with its tasks as they were
+pub none_tasked : (a b : ℕ) (p : Owned) (m : Member) → IsSteady a b p → HasMember m p → IsTasked m System a (length p.structures) (manager_in m p.managers) (manager_in m p.managers)
+none_tasked a b p m s has = record { five = member_five a b p m s has; others = λ w differ. refl; task = task_kept a b p m System s; up = refl; incarnation = refl; next = omega arith }
+
+-- the task with the unit's name is named
+pub named_by : (y : Task) (u : UnitName) → y.unit ≡ Some u → y.unit ≡ None → y ≡ idle
+named_by y u is none = absurd (none-some u (sym none ∙ is))
+
+pub acted : (a b c d : ℕ) (p : Owned) (m : Member) (t : TaskNo) (y : Task) (ss : List ListStructure) (rs : List Reservation) (fillings : List Filling) → IsSteady a b p → HasMember m p
     → length ss ≡ length p.structures
-    → (IsTied (s.rest.logs m).keep (log_in m p.logs).writer (log_in m p.logs).bytes → IsTied (s.rest.logs m).keep (with_kept m rs fillings p).writer (log_in m p.logs).bytes)
     → is_hardening (task_at m t p.managers).stage ≡ false → is_hardening y.stage ≡ false
     → AreHeld (tasks_of (tasked t y (manager_in m p.managers))) (with_kept m rs fillings p)
-    → Change (group_of s.rest p.structures p.managers) (group_of s.rest ss (with_task m t y p.managers))
-    → ((u : UnitName) → y.unit ≡ Some u → u.member ≡ m) → AllByRecursion (IsWithin (length ss)) y.claims
-    → length y.ops ≤ c → a ≤ c → a + b ≤ c + d → ((x : StructNo) → (structure_in x ss).last ≤ c)
+    → ((first : PageNo) → needed_by y.stage ≡ Some first → first.number ≤ (log_in m p.logs).writer.next)
+    → IsKeptTask m c (length ss) (manager_in m p.managers) y
+    → a ≤ c → a + b ≤ c + d → ((x : StructNo) → (structure_in x ss).last ≤ c)
+    → ((l : IsLawful p) → IsTied (l.rest.logs m).keep (log_in m p.logs).writer (log_in m p.logs).bytes → IsTied (l.rest.logs m).keep (with_kept m rs fillings p).writer (log_in m p.logs).bytes)
+    → ((l : IsLawful p) → Change (group_of l.rest p.structures p.managers) (group_of l.rest ss (with_task m t y p.managers)))
     → IsSteady c d (acts m t y ss rs fillings p)
-acted a b c d p m t y ss rs fillings s has same tied before after held change own within short answers more ids =
+acted a b c d p m t y ss rs fillings s has same before after held needs kept_task answers more ids tied change =
     let old = manager_in m p.managers in
     let x = tasked t y old in
     let five = member_five a b p m s has in
     let kept = with_kept m rs fillings p in
     let q = acts m t y ss rs fillings p in
-    let here : manager_in m q.managers ≡ x = manager_same m x p.managers has.manager in
-    let there : log_in m q.logs ≡ kept = log_same m kept p.logs has.log in
-    let sets = task_sets t y old five in
-    let task : task_at m t q.managers ≡ y = ap (λ (z : Manager). task_in t z.tasks) here ∙ sets.here in
-    let seen = seen_beside m (s.rest.logs m) old x p.repo (log_in m p.logs) rs fillings tied refl refl (hardening_stays t y old five before) held (seen_of a b p m s has) in
     let latch = written_same old x (latch_same old.tasks x.tasks (hardening_same t y old five (before ∙ sym after))) in
-    steady_moved a b c d p q m t s.rest s answers (beside_at p m x kept ss same)
-    (record {
-      five = ap (λ (z : Manager). length z.tasks) here ∙ length-set old.tasks (task_number t) y ∙ five;
-      others = λ w differ. ap (λ (z : Manager). task_in w z.tasks) here ∙ sets.others w differ;
-      own = λ u is. own u (sym (ap (λ (z : Task). z.unit) task) ∙ is);
-      within = subst (λ (z : Task). AllByRecursion (IsWithin (length ss)) z.claims) (sym task) within;
-      short = subst (λ (z : Task). length z.ops ≤ c) (sym task) short;
-    })
-    refl (record { logs = λ k differ. refl }) (record { history = s.mirrored.history; failed = s.mirrored.failed; tops = s.mirrored.tops })
-    (laws_stay _ _ change s.laws) (named_stays _ _ change s.named)
-    (seen_same m (s.rest.logs m) (s.rest.logs m) x (manager_in m q.managers) p.repo kept (log_in m q.logs) refl here there seen)
+    steady_moved a b c d p q m t x kept s has answers (beside_at p m x kept ss same) refl (manager_same m x p.managers has.manager) (log_same m kept p.logs has.log) refl
+    (one_tasked m t c (length ss) y old five kept_task) held
+    (behind_sets m t y old x p.repo (log_in m p.logs) kept (task_sets t y old five) (omega arith) needs (s.behind m has.manager))
     (omega (arith, writing_with m x p.managers has.manager, latch, s.room))
     (counted_at a b c d p m x q.logs ss has.manager (omega (arith, s.counted.names m, more)) more ids s.counted)
+    (λ tells l. record {
+      rest = l.rest;
+      others = λ k differ. refl;
+      mirrored = record { history = l.mirrored.history; failed = l.mirrored.failed; tops = l.mirrored.tops };
+      laws = laws_stay _ _ (change l) l.laws;
+      seen = seen_beside m (l.rest.logs m) old x p.repo (log_in m p.logs) rs fillings (tied l) refl refl (hardening_stays t y old five before) (seen_of p m l has);
+    })

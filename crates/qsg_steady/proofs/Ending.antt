@@ -24,10 +24,11 @@ use Rattle.qsg_lists.specs.Settling.{told_by, settle_answer, settled_entry, revi
 use Rattle.qsg_logpage.specs.Reserved.{besides}
 use Rattle.qsg_logpage.proofs.Totals.{total-besides-le}
 use Rattle.qsg_group.specs.declared.tasks.Claim.{Claim}
-use Rattle.qsg_group.specs.declared.tasks.Stage.TheVariants.{BackedOut}
+use Rattle.qsg_group.specs.declared.tasks.Stage.{Stage}
+use Rattle.qsg_group.specs.declared.tasks.Stage.TheVariants.{Open, Hardening, Committed, BackedOut}
 use Rattle.qsg_group.specs.declared.tasks.Task.{Task}
 use Rattle.qsg_group.specs.Group.{Held, idle}
-use Rattle.qsg_group.specs.Observers.{has_id, is_hardening}
+use Rattle.qsg_group.specs.Observers.{has_id, is_undecided, is_hardening}
 use Rattle.qsg_group.specs.Laws.{is_pending, IsConnected}
 use Rattle.qsg_group.specs.Tables.{at_structure, at_task}
 use Rattle.qsg_group.specs.Changes.{open_task, settling, settling_task, is_commit, settle, with_entries, Change}
@@ -36,6 +37,7 @@ use Rattle.qsg_group.specs.Changes.Change.{Settles}
 use Rattle.qsg_group.proofs.Tables.{cases_structure, change-same, change-other}
 use Rattle.qsg_manager.specs.Facilities.{structure_in, no_structure, with_structure}
 use Rattle.qsg_manager.specs.Groups.{group_of}
+use Rattle.qsg_manager.specs.Latches.{needed_by}
 use Rattle.qsg_manager.specs.Settles.{commits, further}
 use Rattle.qsg_manager.specs.Storage.{manager_in, task_at, with_task}
 use Rattle.qsg_manager.specs.Units.{decided}
@@ -47,10 +49,10 @@ use Rattle.qsg_logs.specs.Kept.{KeptLog, no_log, log_in, with_log, with_ended}
 use Rattle.qsg_logs.proofs.Holding.{settling_held, ended_held}
 use Rattle.qsg_logs.proofs.Within.{tied_fewer}
 use Rattle.qsg_parts.specs.Owned.{Owned, HasMember}
-use Rattle.qsg_steady.specs.Steady.{tasks_of, IsWithin, IsSteady}
+use Rattle.qsg_steady.specs.Steady.{tasks_of, IsWithin, IsLawful, IsSteady}
 use Rattle.qsg_steady.specs.Actions.{IsLogKept, given_up, settled, ended}
 use Rattle.qsg_steady.proofs.Places.{task_sets}
-use Rattle.qsg_steady.proofs.Acting.{tasked, member_five, seen_of, acted}
+use Rattle.qsg_steady.proofs.Acting.{tasked, member_five, held_of, named_by, acted}
 use Rattle.qsg_steady.proofs.Operating.{same_ids}
 
 -- the log of the member isn't changed
@@ -68,13 +70,14 @@ given_up_steady a b p t u ops claims s has opened =
     let y = decided (BackedOut 0) (task_at m t p.managers) in
     let x = tasked t y old in
     let five = member_five a b p m s has in
-    let seen = seen_of a b p m s has in
     let before : is_hardening (task_at m t p.managers).stage ≡ false = ap (λ (z : Task). is_hardening z.stage) opened in
-    let held : AreHeld (tasks_of x) log = settling_held (tasks_of old) (tasks_of x) log t y seen.held before (task_sets t y old five) (record { same_unit = refl; closed = refl; settling = refl }) in
+    let held : AreHeld (tasks_of x) log = settling_held (tasks_of old) (tasks_of x) log t y (held_of a b p m s has) before (task_sets t y old five) (record { same_unit = refl; closed = refl; settling = refl }) in
     subst (λ l. IsSteady a b (record p { managers = with_task m t y p.managers; logs = l })) (log_kept m p.logs)
-    (acted a b a b p m t y p.structures log.writer.reserved log.fillings s has refl (λ tied. tied) before refl held
-    (back_out_is_back_out s.rest p.structures p.managers u t ops claims (record { member = record { within = has.manager; five = five }; has = opened }))
-    (λ v is. s.own m t v is) (s.within m t) (omega arith) (omega arith) (omega arith) s.counted.ids)
+    (acted a b a b p m t y p.structures log.writer.reserved log.fillings s has refl before refl held
+    (λ page is. absurd (none-some page is))
+    (record { named = named_by y u (ap (λ (z : Task). z.unit) opened); own = s.own m t; live = s.live m t; within = s.within m t; short = omega arith; paired = λ open_yet. absurd (true≢false (sym open_yet)) })
+    (omega arith) (omega arith) s.counted.ids (λ l tied. tied)
+    (λ l. back_out_is_back_out l.rest p.structures p.managers u t ops claims (record { member = record { within = has.manager; five = five }; has = opened })))
 
 -- ---- a mark comes off
 
@@ -85,6 +88,16 @@ settling_closed (Some first) n = refl
 further_is : (first : Option ℕ) (n : ℕ) → further (settling first n) ≡ settling first (n + 1)
 further_is None n = refl
 further_is (Some first) n = refl
+
+further_decided : (first : Option ℕ) (n : ℕ) → is_undecided (further (settling first n)) ≡ false
+further_decided None n = refl
+further_decided (Some first) n = refl
+
+further_needs : (s : Stage) → needed_by (further s) ≡ needed_by s
+further_needs Open = refl
+further_needs (Hardening first) = refl
+further_needs (Committed first n) = refl
+further_needs (BackedOut n) = refl
 
 further_open : (first : Option ℕ) (n : ℕ) → is_open (further (settling first n)) ≡ false
 further_open None n = refl
@@ -139,43 +152,43 @@ pub claim_within : (a b : ℕ) (p : Owned) (t : TaskNo) (u : UnitName) (claims :
 claim_within a b p t u claims first n c s has is = all_get (IsWithin (length p.structures)) claims n c is (subst (λ (z : Task). AllByRecursion (IsWithin (length p.structures)) z.claims) has (s.within u.member t))
 
 -- the claim of a connection that isn't served any more: the machine's settle leaves the structure
-lost_settle : (a b : ℕ) (p : Owned) (t : TaskNo) (u : UnitName) (claims : List Claim) (first : Option ℕ) (n : ℕ) (c : Claim) (y : Task) (lost : Lost) (s : IsSteady a b p) → HasMember u.member p
+lost_settle : (p : Owned) (t : TaskNo) (u : UnitName) (claims : List Claim) (first : Option ℕ) (n : ℕ) (c : Claim) (y : Task) (lost : Lost) (l : IsLawful p) → HasMember u.member p → length (manager_in u.member p.managers).tasks ≡ 5
     → task_at u.member t p.managers ≡ settling_task u claims first n → slice_get claims n ≡ Some c → y ≡ settling_task u claims first (n + 1) → lost_of (structure_in c.connection.structure p.structures) c.connection ≡ Some lost
-    → Change (group_of s.rest p.structures p.managers) (group_of s.rest p.structures (with_task u.member t y p.managers))
-lost_settle a b p t u claims first n c y lost s has holds is made gone =
+    → Change (group_of l.rest p.structures p.managers) (group_of l.rest p.structures (with_task u.member t y p.managers))
+lost_settle p t u claims first n c y lost l has five holds is made gone =
     let m = u.member in
-    let g = group_of s.rest p.structures p.managers in
+    let g = group_of l.rest p.structures p.managers in
     let number = c.connection.structure in
     let structure = structure_in number p.structures in
     let f = with_entries (settle c.id.number u (is_commit first)) in
-    let connected : IsConnected g.shelves c = all_get (IsConnected g.shelves) claims n c is (subst (λ (z : Task). AllByRecursion (IsConnected g.shelves) z.claims) holds (s.laws.connected u t (ap (λ (z : Task). z.unit) holds))) in
+    let connected : IsConnected g.shelves c = all_get (IsConnected g.shelves) claims n c is (subst (λ (z : Task). AllByRecursion (IsConnected g.shelves) z.claims) holds (l.laws.connected u t (ap (λ (z : Task). z.unit) holds))) in
     let inactive : is_active structure.state ≡ false = unserved structure c.connection lost gone connected in
-    let left : settle c.id.number u (is_commit first) (g.shelves number).entries ≡ (g.shelves number).entries = entries_left c.id.number u (is_commit first) (g.shelves number).entries ((s.laws.shelves number).quiet inactive) in
+    let left : settle c.id.number u (is_commit first) (g.shelves number).entries ≡ (g.shelves number).entries = entries_left c.id.number u (is_commit first) (g.shelves number).entries ((l.laws.shelves number).quiet inactive) in
     let here : f (g.shelves number) ≡ g.shelves number = λ i. record (g.shelves number) { entries = left i } in
     let shelves : (x : StructNo) → at_structure number f g.shelves x ≡ g.shelves x = λ x. elim (cases_structure x number) [
       | inl same ↦ subst (λ z. at_structure number f g.shelves z ≡ g.shelves z) (sym same) (change-same structure_number number f g.shelves ∙ here)
       | inr differ ↦ change-other structure_number number f g.shelves x differ
     ] in
     let after : machine.settled g u t claims first n c ≡ record g { tasks = at_task m t (λ old. y) g.tasks } = λ i. record g { shelves = λ x. shelves x i; tasks = at_task m t (λ old. sym made i) g.tasks } in
-    subst (Change g) (after ∙ sym (task_changed s.rest p.structures p.managers m t y has.manager (member_five a b p m s has)))
+    subst (Change g) (after ∙ sym (task_changed l.rest p.structures p.managers m t y has.manager five))
     (Settles g u t claims first n c (record { has = holds; is = is }))
 
-settle_by : (a b : ℕ) (p : Owned) (t : TaskNo) (u : UnitName) (claims : List Claim) (first : Option ℕ) (n : ℕ) (c : Claim) (y : Task) (s : IsSteady a b p) (o : Option Lost) → HasMember u.member p
+settle_by : (p : Owned) (t : TaskNo) (u : UnitName) (claims : List Claim) (first : Option ℕ) (n : ℕ) (c : Claim) (y : Task) (l : IsLawful p) (o : Option Lost) → HasMember u.member p → length (manager_in u.member p.managers).tasks ≡ 5 → structure_number c.connection.structure ≤ length p.structures
     → task_at u.member t p.managers ≡ settling_task u claims first n → slice_get claims n ≡ Some c → y ≡ record (task_at u.member t p.managers) { stage = further (task_at u.member t p.managers).stage } → y ≡ settling_task u claims first (n + 1)
     → lost_of (structure_in c.connection.structure p.structures) c.connection ≡ o
-    → Change (group_of s.rest p.structures p.managers) (group_of s.rest (with_structure c.connection.structure (revised_if_done (settle_answer (structure_in c.connection.structure p.structures) c.connection c.id u) c.id (settled_entry (commits (task_at u.member t p.managers).stage)) (structure_in c.connection.structure p.structures)) p.structures) (with_task u.member t y p.managers))
-settle_by a b p t u claims first n c y s None has holds is next made served =
-    subst (λ z. Change (group_of s.rest p.structures p.managers) (group_of s.rest (settled u t c p).structures (with_task u.member t z p.managers))) (sym next)
-    (settle_is_settle s.rest p.structures p.managers u t claims first n c (record {
-      member = record { within = has.manager; five = member_five a b p u.member s has };
-      structure = record { within = claim_within a b p t u claims first n c s holds is; served = served };
+    → Change (group_of l.rest p.structures p.managers) (group_of l.rest (with_structure c.connection.structure (revised_if_done (settle_answer (structure_in c.connection.structure p.structures) c.connection c.id u) c.id (settled_entry (commits (task_at u.member t p.managers).stage)) (structure_in c.connection.structure p.structures)) p.structures) (with_task u.member t y p.managers))
+settle_by p t u claims first n c y l None has five within holds is next made served =
+    subst (λ z. Change (group_of l.rest p.structures p.managers) (group_of l.rest (settled u t c p).structures (with_task u.member t z p.managers))) (sym next)
+    (settle_is_settle l.rest p.structures p.managers u t claims first n c (record {
+      member = record { within = has.manager; five = five };
+      structure = record { within = within; served = served };
       has = holds;
       is = is;
     }))
-settle_by a b p t u claims first n c y s (Some lost) has holds is next made gone =
-    subst (λ l. Change (group_of s.rest p.structures p.managers) (group_of s.rest l (with_task u.member t y p.managers)))
+settle_by p t u claims first n c y l (Some lost) has five within holds is next made gone =
+    subst (λ ss. Change (group_of l.rest p.structures p.managers) (group_of l.rest ss (with_task u.member t y p.managers)))
     (sym (lost_kept c.connection.structure c.connection c.id u (settled_entry (commits (task_at u.member t p.managers).stage)) lost p.structures gone))
-    (lost_settle a b p t u claims first n c y lost s has holds is made gone)
+    (lost_settle p t u claims first n c y lost l has five holds is made gone)
 
 pub settled_steady : (a b : ℕ) (p : Owned) (t : TaskNo) (u : UnitName) (claims : List Claim) (first : Option ℕ) (n : ℕ) (c : Claim)
     → IsSteady a b p → HasMember u.member p → task_at u.member t p.managers ≡ settling_task u claims first n → slice_get claims n ≡ Some c → IsSteady a b (settled u t c p)
@@ -188,21 +201,30 @@ settled_steady a b p t u claims first n c s has holds is =
     let x = tasked t y old in
     let ss = (settled u t c p).structures in
     let five = member_five a b p m s has in
-    let seen = seen_of a b p m s has in
     let within = claim_within a b p t u claims first n c s holds is in
     let stage : task.stage ≡ settling first n = ap (λ (z : Task). z.stage) holds in
     let made : y ≡ settling_task u claims first (n + 1) = ap (λ (z : Task). record z { stage = further z.stage }) holds ∙ ap (λ z. record { unit = Some u; ops = []; claims = claims; stage = z }) (further_is first n) in
     let before : is_hardening task.stage ≡ false = ap is_hardening stage ∙ settling_closed first n in
     let after : is_hardening y.stage ≡ false = ap (λ (z : Task). is_hardening z.stage) made ∙ settling_closed first (n + 1) in
     let shut : is_open y.stage ≡ false = ap (λ z. is_open (further z)) stage ∙ further_open first n in
-    let held : AreHeld (tasks_of x) log = settling_held (tasks_of old) (tasks_of x) log t y seen.held before (task_sets t y old five) (record { same_unit = refl; closed = shut; settling = after }) in
+    let settles : is_undecided y.stage ≡ false = ap (λ z. is_undecided (further z)) stage ∙ further_decided first n in
+    let same : length ss ≡ length p.structures = length-set p.structures (structure_number c.connection.structure - 1) _ in
+    let held : AreHeld (tasks_of x) log = settling_held (tasks_of old) (tasks_of x) log t y (held_of a b p m s has) before (task_sets t y old five) (record { same_unit = refl; closed = shut; settling = after }) in
     subst (λ l. IsSteady a b (record p { structures = ss; managers = with_task m t y p.managers; logs = l })) (log_kept m p.logs)
-    (acted a b a b p m t y ss log.writer.reserved log.fillings s has (length-set p.structures (structure_number c.connection.structure - 1) _) (λ tied. tied) before after held
-    (settle_by a b p t u claims first n c y s (lost_of (structure_in c.connection.structure p.structures) c.connection) has holds is refl made refl)
-    (λ v same. s.own m t v same)
-    (subst (λ (k : ℕ). AllByRecursion (IsWithin k) task.claims) (sym (length-set p.structures (structure_number c.connection.structure - 1) _)) (s.within m t))
-    (s.short m t) (omega arith) (omega arith)
-    (same_ids a c.connection.structure _ p.structures within (revised_last (settle_answer (structure_in c.connection.structure p.structures) c.connection c.id u) c.id (settled_entry (commits task.stage)) (structure_in c.connection.structure p.structures)) s.counted.ids))
+    (acted a b a b p m t y ss log.writer.reserved log.fillings s has same before after held
+    (λ page needs. (s.behind m has.manager).runs t page (sym (further_needs task.stage) ∙ needs))
+    (record {
+      named = named_by y u (ap (λ (z : Task). z.unit) holds);
+      own = s.own m t;
+      live = s.live m t;
+      within = subst (λ (k : ℕ). AllByRecursion (IsWithin k) task.claims) (sym same) (s.within m t);
+      short = s.short m t;
+      paired = λ open_yet. absurd (true≢false (sym open_yet ∙ settles));
+    })
+    (omega arith) (omega arith)
+    (same_ids a c.connection.structure _ p.structures within (revised_last (settle_answer (structure_in c.connection.structure p.structures) c.connection c.id u) c.id (settled_entry (commits task.stage)) (structure_in c.connection.structure p.structures)) s.counted.ids)
+    (λ l tied. tied)
+    (λ l. settle_by p t u claims first n c y l (lost_of (structure_in c.connection.structure p.structures) c.connection) has five within holds is refl made refl))
 
 -- ---- a unit ends
 
@@ -214,10 +236,11 @@ ended_steady a b p t u claims first n s has kept holds through =
     let old = manager_in m p.managers in
     let x = tasked t idle old in
     let five = member_five a b p m s has in
-    let seen = seen_of a b p m s has in
     let before : is_hardening (task_at m t p.managers).stage ≡ false = ap (λ (z : Task). is_hardening z.stage) holds ∙ settling_closed first n in
-    let held : AreHeld (tasks_of x) (with_ended t u log) = ended_held (tasks_of old) (tasks_of x) log t u seen.held kept.five (ap (λ (z : Task). z.unit) holds) before (task_sets t idle old five) in
-    acted a b a b p m t idle p.structures (besides u log.writer.reserved) (with_ended t u log).fillings s has refl
-    (tied_fewer (s.rest.logs m).keep log.writer (besides u log.writer.reserved) log.bytes (total-besides-le u log.writer.reserved)) before refl held
-    (finish_is_finish s.rest p.structures p.managers u t claims first n (record { member = record { within = has.manager; five = five }; has = holds; through = through }))
-    (λ v none. absurd (none-some v none)) tt (omega arith) (omega arith) (omega arith) s.counted.ids
+    let held : AreHeld (tasks_of x) (with_ended t u log) = ended_held (tasks_of old) (tasks_of x) log t u (held_of a b p m s has) kept.five (ap (λ (z : Task). z.unit) holds) before (task_sets t idle old five) in
+    acted a b a b p m t idle p.structures (besides u log.writer.reserved) (with_ended t u log).fillings s has refl before refl held
+    (λ page is. absurd (none-some page is))
+    (record { named = λ none. refl; own = λ v is. absurd (none-some v is); live = λ v is. absurd (none-some v is); within = tt; short = omega arith; paired = λ open_yet. refl })
+    (omega arith) (omega arith) s.counted.ids
+    (λ l. tied_fewer (l.rest.logs m).keep log.writer (besides u log.writer.reserved) log.bytes (total-besides-le u log.writer.reserved))
+    (λ l. finish_is_finish l.rest p.structures p.managers u t claims first n (record { member = record { within = has.manager; five = five }; has = holds; through = through }))

@@ -20,6 +20,7 @@ use Rattle.qsg_group.proofs.Keeping.{nothing_happened}
 use Rattle.qsg_manager.specs.declared.managers.Manager.{Manager}
 use Rattle.qsg_manager.specs.Facilities.{no_structure, structure_in}
 use Rattle.qsg_manager.specs.Groups.{seat_of, Rest, group_of}
+use Rattle.qsg_manager.specs.Latches.{needed_by}
 use Rattle.qsg_manager.specs.Storage.{task_in, no_manager, manager_in}
 use Rattle.qsg_manager.specs.Views.{held_of}
 use Rattle.qsg_repo.specs.declared.notes.Note.{Note}
@@ -29,13 +30,14 @@ use Rattle.qsg_repo.specs.Keeping.{least, noted_page, noted_pages, pages_held, s
 use Rattle.qsg_logpage.specs.Log.{LogState}
 use Rattle.qsg_unitlog.specs.Tells.{Tells}
 use Rattle.qsg_unitlog.proofs.Steps.{new_tells}
+use Rattle.qsg_logs.specs.Held.{AreHeld}
 use Rattle.qsg_logs.specs.Kept.{no_log, log_in}
 use Rattle.qsg_logs.specs.Writers.{new_writer}
 use Rattle.qsg_logs.proofs.Owners.{all_weaker}
 use Rattle.qsg_logs.proofs.Holding.{at_first}
 use Rattle.qsg_parts.specs.Owned.{Owned}
 use Rattle.qsg_steady.specs.Founding.{new_manager, IsNewLog, IsNewStructure, IsNew}
-use Rattle.qsg_steady.specs.Steady.{is_start, tasks_of, IsSeen, IsWithin, written_by, writing, IsSteady}
+use Rattle.qsg_steady.specs.Steady.{TellsFrom, tasks_of, IsSeen, IsBehind, IsListed, IsWithin, written_by, writing, IsSteady}
 use Rattle.qsg_steady.proofs.Places.{member_some, latch_none, written_none}
 use Rattle.qsg_steady.proofs.Starts.{least_first, all_joint}
 
@@ -171,37 +173,54 @@ all_noted : (P : ℕ → Type 0) (m : Member) (repo : Repository) (ss : List Str
 all_noted P m repo [] here notes = tt
 all_noted P m repo (s ∷ ss) here notes = (subst (λ o. P (noted_page m o)) (sym (note_none s repo notes)) here, all_noted P m repo ss here notes)
 
-first_seen : (m : Member) (p : Owned) → IsNew p → member_number m ≤ length p.managers → IsSeen m (first_rest.logs m) (manager_in m p.managers) p.repo (log_in m p.logs)
-first_seen m p new there =
+-- a log of a member is new
+log_new : (m : Member) (p : Owned) → IsNew p → member_number m ≤ length p.managers → IsNewLog (log_in m p.logs)
+log_new m p new there = let some = member_some m in all_within IsNewLog p.logs (member_number m - 1) no_log new.logs (omega (arith, new.members, there, some))
+
+manager_new : (m : Member) (p : Owned) → IsNew p → member_number m ≤ length p.managers → manager_in m p.managers ≡ new_manager
+manager_new m p new there = let some = member_some m in all_within (λ (x : Manager). x ≡ new_manager) p.managers (member_number m - 1) no_manager new.managers (omega (arith, there, some))
+
+first_held : (m : Member) (p : Owned) → IsNew p → member_number m ≤ length p.managers → AreHeld (tasks_of (manager_in m p.managers)) (log_in m p.logs)
+first_held m p new there =
+    let fresh = log_new m p new there in
+    at_first (tasks_of (manager_in m p.managers)) (log_in m p.logs) (member_idle m p.managers new.managers).tasks (ap (λ (w : LogState). w.reserved) fresh.writer) (ap (λ (w : LogState). w.hand) fresh.writer) fresh.fillings
+
+first_behind : (m : Member) (p : Owned) → IsNew p → IsBehind m (manager_in m p.managers) p.repo (log_in m p.logs)
+first_behind m p new = record {
+  low = omega (arith, ap (λ (x : PageNo). x.number) (low_zero m p.repo new.lows));
+  runs = λ t first is. absurd (none-some first (ap (λ (x : Task). needed_by x.stage) (sym ((member_idle m p.managers new.managers).tasks t)) ∙ is));
+}
+
+first_seen : (m : Member) (p : Owned) → IsNew p → (log_in m p.logs).tells ≡ true → member_number m ≤ length p.managers → IsSeen m (first_rest.logs m) (manager_in m p.managers) p.repo (log_in m p.logs)
+first_seen m p new tells there =
     let repo = p.repo in
-    let some = member_some m in
     let log = log_in m p.logs in
-    let fresh : IsNewLog log = all_within IsNewLog p.logs (member_number m - 1) no_log new.logs (omega (arith, new.members, there, some)) in
+    let fresh = log_new m p new there in
     let low : (low_of m repo).number ≡ 0 = ap (λ (x : PageNo). x.number) (low_zero m repo new.lows) in
     let first = first_rest.logs m in
     let held : flat_map (pages_held m) repo.holds ≡ [] = ap (flat_map (pages_held m)) new.holds in
     let last = least (low_of m repo).number (noted_pages m repo) in
     let next : log.writer.next ≡ 0 = ap (λ (w : LogState). w.next) fresh.writer in
+    let told : Tells 0 log.writer [] [] None log.bytes = subst (λ (w : LogState). Tells 0 w [] [] None log.bytes) (sym fresh.writer)
+    (subst (λ bytes. Tells 0 (new_writer log.writer.size) [] [] None bytes) (sym (fresh.zeros tells)) (new_tells log.writer.size fresh.some)) in
     record {
       low = sym low;
       keep = omega (arith, low, least_first (low_of m repo).number (noted_pages m repo), least_first last (flat_map (pages_held m) repo.holds));
-      starts = (
-        subst (λ (n : ℕ). is_start first n ≡ true) (sym low) refl,
-        all_joint (λ n. is_start first n ≡ true) (noted_pages m repo) (flat_map (pages_held m) repo.holds)
-            (all_noted (λ n. is_start first n ≡ true) m repo (filter (λ s. recovers s repo) structures_all) refl new.notes)
-            (subst (AllByRecursion (λ n. is_start first n ≡ true)) (sym held) tt),
-      );
       behind = omega arith;
       next = λ none. sym next;
-      told = λ tells. record {
+      told = record {
         gone = [];
         hand = None;
-        tells = subst (λ (w : LogState). Tells 0 w [] [] None log.bytes) (sym fresh.writer)
-            (subst (λ bytes. Tells 0 (new_writer log.writer.size) [] [] None bytes) (sym (fresh.zeros tells)) (new_tells log.writer.size fresh.some));
+        tells = told;
+        later = (
+          subst (TellsFrom first log [] None) (sym low) told,
+          all_joint (TellsFrom first log [] None) (noted_pages m repo) (flat_map (pages_held m) repo.holds)
+              (all_noted (TellsFrom first log [] None) m repo (filter (λ s. recovers s repo) structures_all) told new.notes)
+              (subst (AllByRecursion (TellsFrom first log [] None)) (sym held) tt),
+        );
         ended = tt;
         run = tt;
       };
-      held = at_first (tasks_of (manager_in m p.managers)) log (member_idle m p.managers new.managers).tasks (ap (λ (w : LogState). w.reserved) fresh.writer) (ap (λ (w : LogState). w.hand) fresh.writer) fresh.fillings;
     }
 
 pub founded : (p : Owned) → IsNew p → IsSteady 0 0 p
@@ -213,21 +232,29 @@ founded p new = record {
     lows = ap (λ l. length l) new.lows;
     structures = new.defined;
   };
-  rest = first_rest;
-  mirrored = record {
-    history = sym new.history;
-    failed = λ m i. sym (new.unfailed m i);
-    tops = λ s. sym (ap noted_epoch (note_none s p.repo new.notes));
-  };
-  laws = subst Laws (sym (first_group p new)) (seated_laws (λ m. seat_of (manager_in m p.managers)));
-  logs = λ m there. first_seen m p new there;
   named = λ m t none. (member_idle m p.managers new.managers).tasks t;
   own = λ m t u is. absurd (none-some u (sym (ap (λ (z : Task). z.unit) ((member_idle m p.managers new.managers).tasks t)) ∙ is));
+  live = λ m t u is. absurd (none-some u (sym (ap (λ (z : Task). z.unit) ((member_idle m p.managers new.managers).tasks t)) ∙ is));
   within = λ m t. subst (λ (z : Task). AllByRecursion (IsWithin (length p.structures)) z.claims) (sym ((member_idle m p.managers new.managers).tasks t)) tt;
   short = λ m t. subst (λ (z : Task). length z.ops ≤ 0) (sym ((member_idle m p.managers new.managers).tasks t)) (omega arith);
+  paired = λ m t open_yet. ap (λ (z : Task). length z.ops) ((member_idle m p.managers new.managers).tasks t) ∙ sym (ap (λ (z : Task). length z.claims) ((member_idle m p.managers new.managers).tasks t));
+  held = λ m there. first_held m p new there;
+  behind = λ m there. first_behind m p new;
+  listed = λ m there. subst (λ (x : Manager). IsListed m x p.repo) (sym (manager_new m p new there)) (new.listed m there);
+  over = λ m i is. absurd (true≢false (sym is ∙ new.unfailed m i.number));
   room = omega (arith, none_writing p.managers new.managers);
   counted = record {
     names = λ m. omega (arith, (member_idle m p.managers new.managers).next);
     ids = λ s. omega (arith, (structure_new s p new).last);
+  };
+  lawful = λ tells. record {
+    rest = first_rest;
+    mirrored = record {
+      history = sym new.history;
+      failed = λ m i. sym (new.unfailed m i);
+      tops = λ s. sym (ap noted_epoch (note_none s p.repo new.notes));
+    };
+    laws = subst Laws (sym (first_group p new)) (seated_laws (λ m. seat_of (manager_in m p.managers)));
+    logs = λ m there. first_seen m p new (tells m (omega (arith, new.members, there))) there;
   };
 }

@@ -1,16 +1,16 @@
 -- a unit puts a message or gets one
-use Rattle.std.proofs.Common.{◌≡◌, ℕ, suc, ◌+◌, ◌-◌, ◌≤◌, List, [], ◌∷◌, ◌++◌, length, Bool, true, Option, Some, None, refl, sym, ap, subst, ◌∙◌, inl, inr, arith, length-set}
+use Rattle.std.proofs.Common.{◌≡◌, ℕ, ◌+◌, ◌-◌, ◌≤◌, List, [], ◌∷◌, ◌++◌, length, Bool, true, Option, Some, None, refl, sym, ap, subst, ◌∙◌, inl, inr, arith, length-set}
 use Rattle.std.proofs.lemmas.List.{length-append}
 use Rattle.std.specs.Prelude.{nat_lt}
 use Rattle.std.specs.List.{AllByRecursion}
 use Rattle.std.proofs.lemmas.Bool.Decides.{nat_tests}
+use Rattle.qsg_num.specs.declared.seats.Member.{Member}
 use Rattle.qsg_num.specs.declared.seats.StructNo.{StructNo}
 use Rattle.qsg_num.specs.declared.seats.TaskNo.{TaskNo}
 use Rattle.qsg_num.specs.declared.ids.UnitName.{UnitName}
 use Rattle.qsg_num.specs.declared.words.Delivery.{Delivery}
 use Rattle.qsg_num.specs.Seats.{structure_number}
 use Rattle.qsg_msg.specs.declared.message.Message.{Message}
-use Rattle.qsg_model.specs.declared.history.Item.{Item}
 use Rattle.qsg_model.specs.declared.history.Op.{Op}
 use Rattle.qsg_lists.specs.declared.parts.Connection.{Connection}
 use Rattle.qsg_lists.specs.declared.parts.Entry.{Entry}
@@ -24,7 +24,6 @@ use Rattle.qsg_logpage.proofs.Totals.{total-push}
 use Rattle.qsg_group.specs.declared.tasks.Claim.{Claim}
 use Rattle.qsg_group.specs.declared.tasks.Task.{Task}
 use Rattle.qsg_group.specs.Observers.{is_hardening, is_undecided}
-use Rattle.qsg_group.specs.Laws.{AreMatched}
 use Rattle.qsg_group.specs.Changes.{open_task}
 use Rattle.qsg_group.proofs.Tables.{cases_structure}
 use Rattle.qsg_manager.specs.Actions.{MayWrite}
@@ -45,21 +44,15 @@ use Rattle.qsg_parts.specs.Owned.{Owned, HasMember}
 use Rattle.qsg_steady.specs.Steady.{tasks_of, IsWithin, IsSteady}
 use Rattle.qsg_steady.specs.Actions.{IsLogKept, put_of, claim_put, put, got_of, got}
 use Rattle.qsg_steady.proofs.Places.{task_sets}
-use Rattle.qsg_steady.proofs.Acting.{tasked, member_five, seen_of, acted}
+use Rattle.qsg_steady.proofs.Moving.{IsKeptTask}
+use Rattle.qsg_steady.proofs.Acting.{tasked, member_five, held_of, named_by, acted}
 use Rattle.qsg_steady.proofs.Reserving.{others_and_own}
 
 -- ---- an open unit has a claim for each operation
 
-lengths_match : (h : List Item) (ops : List (StructNo × Op)) (claims : List Claim) → AreMatched h ops claims → length ops ≡ length claims
-lengths_match h [] [] is = refl
-lengths_match h [] (c ∷ claims) is = absurd is
-lengths_match h (w ∷ ops) [] is = absurd is
-lengths_match h (w ∷ ops) (c ∷ claims) is = ap suc (lengths_match h ops claims is.2)
-
 pub claims_match : (a b : ℕ) (p : Owned) (t : TaskNo) (u : UnitName) (ops : List (StructNo × Op)) (claims : List Claim) → IsSteady a b p → task_at u.member t p.managers ≡ open_task u ops claims → length ops ≡ length claims
 claims_match a b p t u ops claims s has =
-    let matched = (s.laws.ready u t (ap (λ (x : Task). x.unit) has) (ap (λ (x : Task). is_undecided x.stage) has)).matched in
-    lengths_match s.rest.history ops claims (subst (λ (x : Task). AreMatched s.rest.history x.ops x.claims) has matched)
+    subst (λ (x : Task). length x.ops ≡ length x.claims) has (s.paired u.member t (ap (λ (x : Task). is_undecided x.stage) has))
 
 -- the unit has this operation more, and its record
 added_held : (a b : ℕ) (p : Owned) (t : TaskNo) (u : UnitName) (ops : List (StructNo × Op)) (claims : List Claim) (op : StructNo × Op) (claim : Claim) (y : Task) (logged : Option ℕ) → IsSteady a b p → HasMember u.member p → IsLogKept u.member p
@@ -71,16 +64,27 @@ added_held a b p t u ops claims op claim y logged s has kept opened made logged_
     let log = log_in u.member p.logs in
     let sets = task_sets t y old (member_five a b p u.member s has) in
     subst (λ (z : Option ℕ). AreHeld (tasks_of x) (with_record_of t z log)) (sym logged_is)
-    (operation_held (tasks_of old) (tasks_of x) log t u op claim (seen_of a b p u.member s has).held kept.five
+    (operation_held (tasks_of old) (tasks_of x) log t u op claim (held_of a b p u.member s has) kept.five
     (record { ops = ops; claims = claims; matched = claims_match a b p t u ops claims s opened; old_is = opened; new_is = sets.here ∙ made })
     (record { here = refl; others = sets.others })
     (subst (λ (z : Option ℕ). need_of t z log ≤ pages_for u log.writer.reserved) logged_is enough))
 
-claims_within : (n : ℕ) (y : Task) (claims : List Claim) (claim : Claim) (old : Task) → old.claims ≡ claims → AllByRecursion (IsWithin n) old.claims → IsWithin n claim → y.claims ≡ old.claims ++ claim ∷ [] → AllByRecursion (IsWithin n) y.claims
-claims_within n y claims claim old is all more made = subst (AllByRecursion (IsWithin n)) (sym made) (all_push (IsWithin n) old.claims claim all more)
-
 length-push_op : {X : Type 0} (xs : List X) (x : X) → length (xs ++ x ∷ []) ≡ length xs + 1
 length-push_op xs x = omega (arith, length-append xs (x ∷ []))
+
+-- a task with one operation more, on a structure of the group
+one_more : (a b : ℕ) (p : Owned) (m : Member) (t : TaskNo) (n : ℕ) (u : UnitName) (op : StructNo × Op) (claim : Claim) → IsSteady a b p → (task_at m t p.managers).unit ≡ Some u → n ≡ length p.structures → IsWithin (length p.structures) claim
+    → IsKeptTask m (a + 1) n (manager_in m p.managers) (record (task_at m t p.managers) { ops = (task_at m t p.managers).ops ++ op ∷ []; claims = (task_at m t p.managers).claims ++ claim ∷ [] })
+one_more a b p m t n u op claim s holds same within =
+    let old = task_at m t p.managers in
+    record {
+      named = named_by (record old { ops = old.ops ++ op ∷ []; claims = old.claims ++ claim ∷ [] }) u holds;
+      own = s.own m t;
+      live = s.live m t;
+      within = subst (λ (k : ℕ). AllByRecursion (IsWithin k) (old.claims ++ claim ∷ [])) (sym same) (all_push (IsWithin (length p.structures)) old.claims claim (s.within m t) within);
+      short = omega (arith, length-push_op old.ops op, s.short m t);
+      paired = λ open_yet. omega (arith, length-push_op old.ops op, length-push_op old.claims claim, s.paired m t open_yet);
+    }
 
 -- ---- a put
 
@@ -103,22 +107,22 @@ pub put_steady : (a b : ℕ) (p : Owned) (t : TaskNo) (u : UnitName) (ops : List
     → IsSteady (a + 1) b (put u t c head place message logged p)
 put_steady a b p t u ops claims c head place message logged s has kept may logged_is enough =
     let m = u.member in
-    let now = may s.rest.outside in
+    let now = may (λ k blocks n. []) in
     let log = log_in m p.logs in
     let structure = structure_in c.structure p.structures in
     let y = with_put c message (next_id structure) (task_at m t p.managers) in
     let ss = with_structure c.structure (with_written structure u head place) p.structures in
-    let fillings = (with_record_of t logged log).fillings in
     let made : y ≡ open_task u (ops ++ put_of c message p ∷ []) (claims ++ claim_put c message p ∷ []) = ap (with_put c message (next_id structure)) now.has in
     let same : length ss ≡ length p.structures = length-set p.structures (structure_number c.structure - 1) (with_written structure u head place) in
-    acted a (b + 1) (a + 1) b p m t y ss log.writer.reserved fillings s has same (λ tied. tied)
+    acted a (b + 1) (a + 1) b p m t y ss log.writer.reserved (with_record_of t logged log).fillings s has same
     (ap (λ (z : Task). is_hardening z.stage) now.has) (ap (λ (z : Task). is_hardening z.stage) made)
     (added_held a (b + 1) p t u ops claims (put_of c message p) (claim_put c message p) y logged s has kept now.has made logged_is enough)
-    (write_is_put s.rest p.structures p.managers u t ops claims c head place message now)
-    (λ v is. s.own m t v is)
-    (subst (λ (n : ℕ). AllByRecursion (IsWithin n) y.claims) (sym same) (all_push (IsWithin (length p.structures)) (task_at m t p.managers).claims (claim_put c message p) (s.within m t) now.structure.within))
-    (omega (arith, length-push_op (task_at m t p.managers).ops (put_of c message p), s.short m t)) (omega arith) (omega arith)
+    ((s.behind m has.manager).runs t)
+    (one_more a (b + 1) p m t (length ss) u (put_of c message p) (claim_put c message p) s (ap (λ (z : Task). z.unit) now.has) same now.structure.within)
+    (omega arith) (omega arith)
     (put_ids a c.structure (with_written structure u head place) p.structures now.structure.within refl s.counted.ids)
+    (λ l tied. tied)
+    (λ l. write_is_put l.rest p.structures p.managers u t ops claims c head place message (may l.rest.outside))
 
 -- ---- a get
 
@@ -134,7 +138,6 @@ pub got_steady : (a b : ℕ) (p : Owned) (t : TaskNo) (u : UnitName) (ops : List
 got_steady a b p t u ops claims c queue order select e logged s has kept within opened served found logged_is enough =
     let m = u.member in
     let log = log_in m p.logs in
-    let seen = seen_of a (b + 1) p m s has in
     let structure = structure_in c.structure p.structures in
     let y = with_got c e (task_at m t p.managers) in
     let x = tasked t y (manager_in m p.managers) in
@@ -151,16 +154,16 @@ got_steady a b p t u ops claims c queue order select e logged s has kept within 
     let held : AreHeld (tasks_of x) (fallen_back t u true recorded) =
     subst (λ (z : Bool). AreHeld (tasks_of x) (fallen_back t u z recorded)) some (fall_back_held (tasks_of x) recorded t u (ops ++ got_of c e ∷ []) (claims ++ claim_on c e ∷ []) first now) in
     acted a (b + 1) (a + 1) b p m t y ss rs recorded.fillings s has same
-    (tied_fewer (s.rest.logs m).keep log.writer rs log.bytes (omega (arith, total-push (besides u log.writer.reserved) (record { unit = u; pages = need_of t None recorded }), others_and_own u log.writer.reserved, less)))
     (ap (λ (z : Task). is_hardening z.stage) opened) (ap (λ (z : Task). is_hardening z.stage) made) held
-    (get_is_get s.rest p.structures p.managers u t ops claims c queue order select e (record {
+    ((s.behind m has.manager).runs t)
+    (one_more a (b + 1) p m t (length ss) u (got_of c e) (claim_on c e) s (ap (λ (z : Task). z.unit) opened) same within)
+    (omega arith) (omega arith)
+    (same_ids (a + 1) c.structure _ p.structures within refl (λ x. omega (arith, s.counted.ids x)))
+    (λ l. tied_fewer (l.rest.logs m).keep log.writer rs log.bytes (omega (arith, total-push (besides u log.writer.reserved) (record { unit = u; pages = need_of t None recorded }), others_and_own u log.writer.reserved, less)))
+    (λ l. get_is_get l.rest p.structures p.managers u t ops claims c queue order select e (record {
       member = record { within = has.manager; five = five };
       structure = record { within = within; served = served };
       has = opened;
       found = found;
-      ordered = shelf_order s.rest.outside c.structure structure (s.laws.shelves c.structure);
+      ordered = shelf_order l.rest.outside c.structure structure (l.laws.shelves c.structure);
     }))
-    (λ v is. s.own m t v is)
-    (subst (λ (n : ℕ). AllByRecursion (IsWithin n) y.claims) (sym same) (all_push (IsWithin (length p.structures)) (task_at m t p.managers).claims (claim_on c e) (s.within m t) within))
-    (omega (arith, length-push_op (task_at m t p.managers).ops (got_of c e), s.short m t)) (omega arith) (omega arith)
-    (same_ids (a + 1) c.structure _ p.structures within refl (λ x. omega (arith, s.counted.ids x)))

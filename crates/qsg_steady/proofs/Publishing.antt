@@ -41,16 +41,19 @@ use Rattle.qsg_manager.proofs.Ending.{publish_is_publish}
 use Rattle.qsg_manager.proofs.Needs.{needed_of_all}
 use Rattle.qsg_logs.specs.Kept.{KeptLog, log_in}
 use Rattle.qsg_logs.proofs.Holding.{no_run_at_all}
-use Rattle.qsg_logs.proofs.Owners.{all_weaker}
 use Rattle.qsg_parts.specs.Owned.{Owned, HasMember}
-use Rattle.qsg_steady.specs.Steady.{pages_named, is_start, tasks_of, IsRunOf, IsSeen, IsSteady}
+use Rattle.qsg_steady.specs.Steady.{pages_named, TellsFrom, tasks_of, IsRunOf, IsTold, IsSeen, IsBehind, IsLawful, IsSteady}
 use Rattle.qsg_steady.specs.Actions.{published, IsLowPage}
 use Rattle.qsg_steady.proofs.Places.{member_some, member_few}
 use Rattle.qsg_steady.proofs.Moving.{by_member}
-use Rattle.qsg_steady.proofs.Acting.{seen_of, member_five}
-use Rattle.qsg_steady.proofs.Starts.{least_of, least_first, least_all, all_apart, all_joint, all_pairs, begins_at, is_from, all_from, none_from, parted_at, still_found, unit_starts}
+use Rattle.qsg_steady.proofs.Acting.{held_of, seen_of, member_five}
+use Rattle.qsg_steady.proofs.Starts.{all_pairs, begins_at, is_from, all_from, none_from, parted_at, unit_starts, from_later, named_kept, named_least}
 
 -- ---- pages that are given up
+
+-- a run begins at the page, or it is the first page that is kept, or the next one
+abbrev is_start : Log → ℕ → Bool
+is_start log page = (page == log.keep) || (page == log.next) || list_any (begins_at page) log.runs
 
 -- a page that is a start is kept from, or it is the next one, or a run begins there
 start_cases : (log : Log) (page : ℕ) → is_start log page ≡ true → (page ≡ log.keep) ⊎ ((page ≡ log.next) ⊎ (list_any (begins_at page) log.runs ≡ true))
@@ -76,16 +79,6 @@ next_start log page is = by (page == log.keep) (ap (λ b. b || list_any (begins_
 
 run_start : (log : Log) (page : ℕ) → list_any (begins_at page) log.runs ≡ true → is_start log page ≡ true
 run_start log page is = or_true ((page == log.keep) || (page == log.next)) (list_any (begins_at page) log.runs) is
-
--- pages that are kept are starts still
-starts_from : (log : Log) (page at : ℕ) → log.keep ≤ page → page ≤ at → is_start log at ≡ true → is_start (from_page page log) at ≡ true
-starts_from log page at rises later is = elim (start_cases log at is) [
-  | inl kept ↦ kept_start (from_page page log) at (omega (arith, kept, rises, later))
-  | inr more ↦ elim more [
-    | inl next ↦ next_start (from_page page log) at next
-    | inr run ↦ run_start (from_page page log) at (still_found page at log.runs later run)
-  ]
-]
 
 hand_begins : (tasks : TaskNo → Task) (next : ℕ) (run : Run) → ((t : TaskNo) → IsNext next (tasks t).stage) → IsRunOf tasks (Some run) → run.first ≡ next
 hand_begins tasks next run each (t, ops, claims, has, told) = subst (λ (x : Task). IsNext next x.stage) has (each t)
@@ -154,21 +147,21 @@ hard_none (Committed first n) needed = refl
 hard_none (BackedOut n) needed = refl
 
 -- a page that a unit needs
-unit_needs : (a b : ℕ) (p : Owned) (u : UnitName) (t : TaskNo) (first : PageNo) (s : IsSteady a b p) → (task_at u.member t p.managers).unit ≡ Some u → needed_by (task_at u.member t p.managers).stage ≡ Some first
-    → (is_start (s.rest.logs u.member) first.number ≡ true) × (first.number ≤ (s.rest.logs u.member).next)
-unit_needs a b p u t first s has needed =
+unit_needs : (p : Owned) (u : UnitName) (t : TaskNo) (first : PageNo) (l : IsLawful p) → (task_at u.member t p.managers).unit ≡ Some u → needed_by (task_at u.member t p.managers).stage ≡ Some first
+    → (is_start (l.rest.logs u.member) first.number ≡ true) × (first.number ≤ (l.rest.logs u.member).next)
+unit_needs p u t first l has needed =
     let m = u.member in
-    let log = s.rest.logs m in
+    let log = l.rest.logs m in
     let stage = (task_at m t p.managers).stage in
-    needed_start stage first log needed (s.laws.latched.next m t)
-    (λ hard page n is. unit_starts page log.keep log.next u log.runs (s.laws.logs m).runs ((s.laws.in_hand u t has).in_log ∙ hard) (subst (IsPlaced u log.runs) is (s.laws.placed u t has)))
+    needed_start stage first log needed (l.laws.latched.next m t)
+    (λ hard page n is. unit_starts page log.keep log.next u log.runs (l.laws.logs m).runs ((l.laws.in_hand u t has).in_log ∙ hard) (subst (IsPlaced u log.runs) is (l.laws.placed u t has)))
 
-task_needs : (a b : ℕ) (p : Owned) (m : Member) (t : TaskNo) (first : PageNo) (unit : Option UnitName) (s : IsSteady a b p) → (task_at m t p.managers).unit ≡ unit → needed_by (task_at m t p.managers).stage ≡ Some first
-    → (is_start (s.rest.logs m) first.number ≡ true) × (first.number ≤ (s.rest.logs m).next)
-task_needs a b p m t first None s has needed = absurd (none-some first (ap (λ (x : Task). needed_by x.stage) (sym (s.named m t has)) ∙ needed))
-task_needs a b p m t first (Some u) s has needed =
-    subst (λ z. (task_at z t p.managers).unit ≡ Some u → needed_by (task_at z t p.managers).stage ≡ Some first → (is_start (s.rest.logs z) first.number ≡ true) × (first.number ≤ (s.rest.logs z).next)) (s.own m t u has)
-    (λ h n. unit_needs a b p u t first s h n) has needed
+task_needs : (a b : ℕ) (p : Owned) (m : Member) (t : TaskNo) (first : PageNo) (unit : Option UnitName) → IsSteady a b p → (l : IsLawful p) → (task_at m t p.managers).unit ≡ unit → needed_by (task_at m t p.managers).stage ≡ Some first
+    → (is_start (l.rest.logs m) first.number ≡ true) × (first.number ≤ (l.rest.logs m).next)
+task_needs a b p m t first None s l has needed = absurd (none-some first (ap (λ (x : Task). needed_by x.stage) (sym (s.named m t has)) ∙ needed))
+task_needs a b p m t first (Some u) s l has needed =
+    subst (λ z. (task_at z t p.managers).unit ≡ Some u → needed_by (task_at z t p.managers).stage ≡ Some first → (is_start (l.rest.logs z) first.number ≡ true) × (first.number ≤ (l.rest.logs z).next)) (s.own m t u has)
+    (λ h n. unit_needs p u t first l h n) has needed
 
 -- what holds of the page that a member tells
 record MayTell (log : Log) (tasks : List Task) (page : ℕ) : Type 0 where
@@ -176,29 +169,38 @@ record MayTell (log : Log) (tasks : List Task) (page : ℕ) : Type 0 where
   pub written : page ≤ log.next
   pub needed : IfSome (first_needed tasks) (λ (first : PageNo). page ≤ first.number)
 
-low_by : (a b : ℕ) (p : Owned) (m : Member) (page : ℕ) (o : Option PageNo) (s : IsSteady a b p) → HasMember m p → first_needed (manager_in m p.managers).tasks ≡ o
-    → page ≡ (elim o as (λ x. ℕ) [ None ↦ (log_in m p.logs).writer.next | Some first ↦ first.number ]) → MayTell (s.rest.logs m) (manager_in m p.managers).tasks page
-low_by a b p m page None s has is page_is =
-    let log = s.rest.logs m in
+low_by : (a b : ℕ) (p : Owned) (m : Member) (page : ℕ) (o : Option PageNo) → IsSteady a b p → (l : IsLawful p) → HasMember m p → first_needed (manager_in m p.managers).tasks ≡ o
+    → page ≡ (elim o as (λ x. ℕ) [ None ↦ (log_in m p.logs).writer.next | Some first ↦ first.number ]) → MayTell (l.rest.logs m) (manager_in m p.managers).tasks page
+low_by a b p m page None s l has is page_is =
+    let log = l.rest.logs m in
     let tasks = (manager_in m p.managers).tasks in
-    let seen = seen_of a b p m s has in
+    let seen = seen_of p m l has in
     let quiet : (t : TaskNo) → is_hardening (task_in t tasks).stage ≡ false = λ t. hard_none (task_in t tasks).stage (λ n. needed_of_all n tasks (subst (λ x. IfSome x (λ (first : PageNo). n ≤ first.number)) (sym is) tt) t) in
-    let next = seen.next (no_run_at_all (tasks_of (manager_in m p.managers)) (log_in m p.logs) seen.held quiet) in
+    let next = seen.next (no_run_at_all (tasks_of (manager_in m p.managers)) (log_in m p.logs) (held_of a b p m s has) quiet) in
     record {
       start = next_start log page (page_is ∙ sym next);
       written = omega (arith, page_is, next);
       needed = subst (λ x. IfSome x (λ (first : PageNo). page ≤ first.number)) (sym is) tt;
     }
-low_by a b p m page (Some first) s has is page_is =
-    let log = s.rest.logs m in
+low_by a b p m page (Some first) s l has is page_is =
+    let log = l.rest.logs m in
     let tasks = (manager_in m p.managers).tasks in
     let both = needed_of (λ f. (is_start log f.number ≡ true) × (f.number ≤ log.next)) tasks first is
-    (all_five (λ (x : Task). (f : PageNo) → needed_by x.stage ≡ Some f → (is_start log f.number ≡ true) × (f.number ≤ log.next)) tasks (member_five a b p m s has) (λ t f needed. task_needs a b p m t f (task_at m t p.managers).unit s refl needed)) in
+    (all_five (λ (x : Task). (f : PageNo) → needed_by x.stage ≡ Some f → (is_start log f.number ≡ true) × (f.number ≤ log.next)) tasks (member_five a b p m s has) (λ t f needed. task_needs a b p m t f (task_at m t p.managers).unit s l refl needed)) in
     record {
       start = subst (λ (n : ℕ). is_start log n ≡ true) (sym page_is) both.0;
       written = omega (arith, page_is, both.1);
       needed = subst (λ x. IfSome x (λ (f : PageNo). page ≤ f.number)) (sym is) (omega (arith, page_is));
     }
+
+-- it isn't behind the next page of the log
+low_written : (a b : ℕ) (p : Owned) (m : Member) (page : ℕ) (o : Option PageNo) → IsSteady a b p → HasMember m p → first_needed (manager_in m p.managers).tasks ≡ o
+    → page ≡ (elim o as (λ x. ℕ) [ None ↦ (log_in m p.logs).writer.next | Some first ↦ first.number ]) → page ≤ (log_in m p.logs).writer.next
+low_written a b p m page None s has is page_is = omega (arith, page_is)
+low_written a b p m page (Some first) s has is page_is =
+    let next = (log_in m p.logs).writer.next in
+    let tasks = (manager_in m p.managers).tasks in
+    omega (arith, page_is, needed_of (λ f. f.number ≤ next) tasks first is (all_five (λ (x : Task). (f : PageNo) → needed_by x.stage ≡ Some f → f.number ≤ next) tasks (member_five a b p m s has) (s.behind m has.manager).runs))
 
 -- ---- no incarnation is failed
 
@@ -241,42 +243,37 @@ seen_other m k log manager page repo kept differ seen =
     record {
       low = seen.low ∙ ap (λ (x : PageNo). x.number) (sym low);
       keep = seen.keep ∙ ap (λ (x : PageNo). least (least x.number (noted_pages k repo)) (flat_map (pages_held k) repo.holds)) (sym low);
-      starts = subst (λ (x : PageNo). AllByRecursion (λ n. is_start log n ≡ true) (x.number ∷ (noted_pages k repo ++ flat_map (pages_held k) repo.holds))) (sym low) seen.starts;
       behind = seen.behind;
       next = seen.next;
-      told = seen.told;
-      held = seen.held;
+      told = subst (λ (x : PageNo). IsTold (x.number ∷ (noted_pages k repo ++ flat_map (pages_held k) repo.holds)) log manager kept) (sym low) seen.told;
     }
+
+behind_other : (m k : Member) (manager : Manager) (page : PageNo) (repo : Repository) (kept : KeptLog) → (member_number k ≡ member_number m → ⊥) → IsBehind k manager repo kept → IsBehind k manager (with_low m page repo) kept
+behind_other m k manager page repo kept differ behind = record {
+  low = subst (λ (x : PageNo). x.number ≤ kept.writer.next) (sym (low_other m k page repo differ)) behind.low;
+  runs = behind.runs;
+}
 
 -- the pages that the repository names after its member's low page rose
 abbrev lowered : Member → ℕ → Repository → Repository
 lowered m page repo = with_low m (page_at (max (low_of m repo).number page)) repo
 
-record AreLower (m : Member) (page : ℕ) (repo : Repository) (log : Log) : Type 0 where
+-- what holds of the pages that the repository names, and of the first one that is kept
+record AreLower (m : Member) (page : ℕ) (repo : Repository) (P : ℕ → Type 0) : Type 0 where
   pub low : low_of m (lowered m page repo) ≡ page_at (max (low_of m repo).number page)
-  pub starts : AllByRecursion (λ n. is_start log n ≡ true) (pages_named m (lowered m page repo))
-  pub below : AllByRecursion (λ n. keep m (lowered m page repo) ≤ n) (pages_named m (lowered m page repo))
-  pub keep_starts : is_start log (keep m (lowered m page repo)) ≡ true
+  pub all : AllByRecursion P (pages_named m (lowered m page repo))
+  pub kept : P (keep m (lowered m page repo))
   pub rises : keep m repo ≤ keep m (lowered m page repo)
 
-are_lower : (m : Member) (page : ℕ) (repo : Repository) (log : Log) → length repo.lows ≡ 8 → has_failed m repo ≡ false → AllByRecursion (λ n. is_start log n ≡ true) (pages_named m repo) → is_start log page ≡ true → AreLower m page repo log
-are_lower m page repo log eight none starts start =
+are_lower : (m : Member) (page : ℕ) (repo : Repository) (P : ℕ → Type 0) → length repo.lows ≡ 8 → has_failed m repo ≡ false → AllByRecursion P (pages_named m repo) → P page → AreLower m page repo P
+are_lower m page repo P eight none all one =
     let after = lowered m page repo in
-    let noted = noted_pages m repo in
-    let held = flat_map (pages_held m) repo.holds in
     let low = low_here m (page_at (max (low_of m repo).number page)) repo eight in
-    let first : is_start log (low_of m after).number ≡ true = subst (λ (x : PageNo). is_start log x.number ≡ true) (sym low) (max_of (λ n. is_start log n ≡ true) (low_of m repo).number page starts.0 start) in
-    let parts = all_apart (λ n. is_start log n ≡ true) noted held starts.1 in
-    let middle = least (low_of m after).number noted in
-    let last : keep m after ≤ middle = least_first middle held in
+    let first : P (low_of m after).number = subst (λ (x : PageNo). P x.number) (sym low) (max_of P (low_of m repo).number page all.0 one) in
     record {
       low = low;
-      starts = (first, starts.1);
-      below = (
-        omega (arith, last, least_first (low_of m after).number noted),
-        all_joint (λ n. keep m after ≤ n) noted held (all_weaker (λ n. middle ≤ n) (λ n. keep m after ≤ n) noted (λ n h. omega (arith, last, h)) (least_all (low_of m after).number noted)) (least_all middle held),
-      );
-      keep_starts = least_of (λ n. is_start log n ≡ true) middle held (least_of (λ n. is_start log n ≡ true) (low_of m after).number noted first parts.0) parts.1;
+      all = (first, all.1);
+      kept = named_least P m after (first, all.1);
       rises = subst (λ r. keep m repo ≤ keep m r) (ap (λ b. cond b repo after) none) (keep-published repo m m (page_at page));
     }
 
@@ -284,64 +281,86 @@ are_lower m page repo log eight none starts start =
 abbrev low_log : ℕ → Log → Log
 low_log page log = record log { low = max log.low page }
 
-seen_lower : (m : Member) (page : ℕ) (log : Log) (manager : Manager) (repo : Repository) (kept : KeptLog) → AreLower m page repo log → AreRuns log.keep log.next log.runs → ((t : TaskNo) → IsNext log.next (tasks_of manager t).stage) → IsSeen m log manager repo kept
+seen_lower : (m : Member) (page : ℕ) (log : Log) (manager : Manager) (repo : Repository) (kept : KeptLog) (seen : IsSeen m log manager repo kept) → AreLower m page repo (TellsFrom log kept seen.told.gone seen.told.hand)
     → IsSeen m (from_page (keep m (lowered m page repo)) (low_log page log)) manager (lowered m page repo) kept
-seen_lower m page log manager repo kept lower runs each seen =
-    let from = keep m (lowered m page repo) in
+seen_lower m page log manager repo kept seen lower =
+    let after = lowered m page repo in
+    let from = keep m after in
+    let told = seen.told in
     record {
       low = ap (λ (n : ℕ). max n page) seen.low ∙ ap (λ (x : PageNo). x.number) (sym lower.low);
       keep = refl;
-      starts = all_pairs (λ n. from ≤ n) (λ n. is_start log n ≡ true) (λ n. is_start (from_page from (low_log page log)) n ≡ true) (pages_named m (lowered m page repo))
-          (λ n below is. starts_from log from n (omega (arith, lower.rises, seen.keep)) below is) lower.below lower.starts;
       behind = seen.behind;
       next = seen.next;
-      told = λ tells. let told = seen.told tells in record {
+      told = record {
         gone = told.gone;
         hand = told.hand;
-        tells = tells_from log kept (tasks_of manager) told.gone told.hand from runs each seen.next told.run lower.keep_starts told.tells;
+        tells = lower.kept;
+        later = all_pairs (λ n. from ≤ n) (TellsFrom log kept told.gone told.hand) (TellsFrom (from_page from (low_log page log)) kept told.gone told.hand) (pages_named m after)
+            (λ n below tells. subst (λ rs. Tells n kept.writer told.gone rs told.hand kept.bytes) (sym (from_later from n log.runs below)) tells) (named_kept m after) lower.all;
         ended = told.ended;
         run = told.run;
       };
-      held = seen.held;
+    }
+
+lowered_lawful : (a b page : ℕ) (p : Owned) (m : Member) → IsSteady a b p → HasMember m p → IsLowPage m page p → has_failed m p.repo ≡ false → IsLawful p → IsLawful (record p { repo = lowered m page p.repo })
+lowered_lawful a b page p m s has page_is none l =
+    let log = l.rest.logs m in
+    let manager = manager_in m p.managers in
+    let kept = log_in m p.logs in
+    let seen = seen_of p m l has in
+    let may = low_by a b p m page (first_needed manager.tasks) s l has refl page_is in
+    let told = seen.told in
+    let start = tells_from log kept (tasks_of manager) told.gone told.hand page (l.laws.logs m).runs (λ t. l.laws.latched.next m t) seen.next told.run may.start told.tells in
+    let lower = are_lower m page p.repo (TellsFrom log kept told.gone told.hand) s.shape.lows none told.later start in
+    let after = lowered m page p.repo in
+    let from = keep m after in
+    let rest1 = tells_low m page l.rest in
+    let rest2 : Rest = record rest1 { logs = at_member m (from_page from) rest1.logs } in
+    let first : rest1.logs m ≡ low_log page log = change-same member_number m (low_log page) l.rest.logs in
+    let here : rest2.logs m ≡ from_page from (low_log page log) = change-same member_number m (from_page from) rest1.logs ∙ ap (from_page from) first in
+    let other : (k : Member) → (member_number k ≡ member_number m → ⊥) → rest2.logs k ≡ l.rest.logs k = λ k differ. change-other member_number m (from_page from) rest1.logs k differ ∙ change-other member_number m (low_log page) l.rest.logs k differ in
+    let laws1 = laws_stay _ _ (publish_is_publish l.rest p.structures p.managers m page (record { written = may.written; needed = may.needed; resolved = λ i. l.mirrored.failed m i ∙ none_unresolved m (record { number = i }) p.repo.lives none })) l.laws in
+    let low_page : (low_of m after).number ≡ max (low_of m p.repo).number page = ap (λ (x : PageNo). x.number) lower.low in
+    let low_is : max log.low page ≡ max (low_of m p.repo).number page = ap (λ (n : ℕ). max n page) seen.low in
+    let gives = GivesUp (group_of rest1 p.structures p.managers) m from (record {
+      rises = subst (λ (g : Log). g.keep ≤ from) (sym first) (omega (arith, seen.keep, lower.rises));
+      low = subst (λ (g : Log). from ≤ g.low) (sym first) (omega (arith, (named_kept m after).0, low_page, low_is));
+    }) in
+    record {
+      rest = rest2;
+      mirrored = record { history = l.mirrored.history; failed = l.mirrored.failed; tops = l.mirrored.tops };
+      laws = laws_stay _ _ gives laws1;
+      logs = by_member (λ k. member_number k ≤ length p.managers → IsSeen k (rest2.logs k) (manager_in k p.managers) after (log_in k p.logs)) m
+          (λ there. subst (λ g. IsSeen m g manager after kept) (sym here) (seen_lower m page log manager p.repo kept seen lower))
+          (λ k differ there. subst (λ g. IsSeen k g (manager_in k p.managers) after (log_in k p.logs)) (sym (other k differ))
+          (seen_other m k (l.rest.logs k) (manager_in k p.managers) (page_at (max (low_of m p.repo).number page)) p.repo (log_in k p.logs) differ (l.logs k there)));
     }
 
 lowered_steady : (a b page : ℕ) (p : Owned) (m : Member) → IsSteady a b p → HasMember m p → IsLowPage m page p → has_failed m p.repo ≡ false → IsSteady a b (record p { repo = lowered m page p.repo })
 lowered_steady a b page p m s has page_is none =
-    let log = s.rest.logs m in
-    let manager = manager_in m p.managers in
-    let kept = log_in m p.logs in
-    let seen = seen_of a b p m s has in
-    let may = low_by a b p m page (first_needed manager.tasks) s has refl page_is in
-    let lower = are_lower m page p.repo log s.shape.lows none seen.starts may.start in
-    let after = lowered m page p.repo in
-    let from = keep m after in
-    let rest1 = tells_low m page s.rest in
-    let rest2 : Rest = record rest1 { logs = at_member m (from_page from) rest1.logs } in
-    let first : rest1.logs m ≡ low_log page log = change-same member_number m (low_log page) s.rest.logs in
-    let here : rest2.logs m ≡ from_page from (low_log page log) = change-same member_number m (from_page from) rest1.logs ∙ ap (from_page from) first in
-    let other : (k : Member) → (member_number k ≡ member_number m → ⊥) → rest2.logs k ≡ s.rest.logs k = λ k differ. change-other member_number m (from_page from) rest1.logs k differ ∙ change-other member_number m (low_log page) s.rest.logs k differ in
-    let laws1 = laws_stay _ _ (publish_is_publish s.rest p.structures p.managers m page (record { written = may.written; needed = may.needed; resolved = λ i. s.mirrored.failed m i ∙ none_unresolved m (record { number = i }) p.repo.lives none })) s.laws in
-    let low_page : (low_of m after).number ≡ max (low_of m p.repo).number page = ap (λ (x : PageNo). x.number) lower.low in
-    let low_is : max log.low page ≡ max (low_of m p.repo).number page = ap (λ (n : ℕ). max n page) seen.low in
-    let gives = GivesUp (group_of rest1 p.structures p.managers) m from (record {
-      rises = subst (λ (l : Log). l.keep ≤ from) (sym first) (omega (arith, seen.keep, lower.rises));
-      low = subst (λ (l : Log). from ≤ l.low) (sym first) (omega (arith, lower.below.0, low_page, low_is));
-    }) in
+    let behind = s.behind m has.manager in
+    let next = (log_in m p.logs).writer.next in
+    let low = page_at (max (low_of m p.repo).number page) in
+    let here = low_here m low p.repo s.shape.lows in
+    let written = low_written a b p m page (first_needed (manager_in m p.managers).tasks) s has refl page_is in
     record {
-      shape = record { logs = s.shape.logs; few = s.shape.few; five = s.shape.five; lows = length-set p.repo.lows (member_number m - 1) (page_at (max (low_of m p.repo).number page)) ∙ s.shape.lows; structures = s.shape.structures };
-      rest = rest2;
-      mirrored = record { history = s.mirrored.history; failed = s.mirrored.failed; tops = s.mirrored.tops };
-      laws = laws_stay _ _ gives laws1;
-      logs = by_member (λ k. member_number k ≤ length p.managers → IsSeen k (rest2.logs k) (manager_in k p.managers) after (log_in k p.logs)) m
-          (λ there. subst (λ l. IsSeen m l manager after kept) (sym here) (seen_lower m page log manager p.repo kept lower (s.laws.logs m).runs (λ t. s.laws.latched.next m t) seen))
-          (λ k differ there. subst (λ l. IsSeen k l (manager_in k p.managers) after (log_in k p.logs)) (sym (other k differ))
-          (seen_other m k (s.rest.logs k) (manager_in k p.managers) (page_at (max (low_of m p.repo).number page)) p.repo (log_in k p.logs) differ (s.logs k there)));
+      shape = record { logs = s.shape.logs; few = s.shape.few; five = s.shape.five; lows = length-set p.repo.lows (member_number m - 1) low ∙ s.shape.lows; structures = s.shape.structures };
       named = s.named;
       own = s.own;
+      live = s.live;
       within = s.within;
       short = s.short;
+      paired = s.paired;
+      held = s.held;
+      behind = by_member (λ k. member_number k ≤ length p.managers → IsBehind k (manager_in k p.managers) (lowered m page p.repo) (log_in k p.logs)) m
+          (λ there. record { low = subst (λ (x : PageNo). x.number ≤ next) (sym here) (max_of (λ n. n ≤ next) (low_of m p.repo).number page behind.low written); runs = behind.runs })
+          (λ k differ there. behind_other m k (manager_in k p.managers) low p.repo (log_in k p.logs) differ (s.behind k there));
+      listed = λ k there. let listed = s.listed k there in record { given = listed.given; up = listed.up };
+      over = s.over;
       room = s.room;
       counted = record { names = s.counted.names; ids = s.counted.ids };
+      lawful = λ tells. lowered_lawful a b page p m s has page_is none (s.lawful tells);
     }
 
 pub published_steady : (a b page : ℕ) (p : Owned) (m : Member) → IsSteady a b p → HasMember m p → IsLowPage m page p → IsSteady a b (published m page p)

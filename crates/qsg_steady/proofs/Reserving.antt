@@ -1,9 +1,8 @@
 -- pages are reserved for units of tasks
 use Rattle.std.proofs.Common.{◌≡◌, ℕ, ◌+◌, ◌-◌, ◌<◌, ◌≤◌, List, [], ◌∷◌, ◌++◌, length, Bool, true, false, Option, Some, None, refl, sym, ap, subst, ◌∙◌, cond, arith, length-set}
 use Rattle.std.specs.Prelude.{nat_lt, Ok}
-use Rattle.std.specs.List.{AllByRecursion}
 use Rattle.std.proofs.lemmas.Bool.Decides.{nat_tests}
-use Rattle.std.proofs.lemmas.Option.{same_Some}
+use Rattle.std.proofs.lemmas.Option.{same_Some, none-some}
 use Rattle.std.proofs.lemmas.List.Sums.{sum_by-cons}
 use Rattle.qsg_num.specs.declared.seats.Member.{Member}
 use Rattle.qsg_num.specs.declared.seats.TaskNo.{TaskNo}
@@ -18,6 +17,7 @@ use Rattle.qsg_logpage.specs.Log.{IsTied}
 use Rattle.qsg_logpage.specs.Reserved.{is_other, besides, total, pages_of, pages_for}
 use Rattle.qsg_logpage.proofs.Totals.{total-besides-le, total-push}
 use Rattle.qsg_logneed.specs.declared.counting.Filling.{Filling}
+use Rattle.qsg_repo.specs.Keeping.{keep}
 use Rattle.qsg_group.specs.declared.tasks.Claim.{Claim}
 use Rattle.qsg_group.specs.declared.tasks.Task.{Task}
 use Rattle.qsg_group.specs.Group.{idle}
@@ -29,22 +29,21 @@ use Rattle.qsg_manager.specs.Storage.{task_in, with_task_in, manager_in, task_at
 use Rattle.qsg_manager.specs.Units.{with_name}
 use Rattle.qsg_manager.proofs.Ending.{draw_is_draw}
 use Rattle.qsg_manager.proofs.Grouping.{manager_same, manager_other}
-use Rattle.qsg_manager.proofs.Needs.{named_stays}
 use Rattle.qsg_logs.specs.Held.{HoldsUnit, AreHeld, Sets}
 use Rattle.qsg_logs.specs.Kept.{KeptLog, log_in, with_log, filling_of, with_writer, need_of, with_reserved, fallen_back}
-use Rattle.qsg_logs.specs.Writers.{released, reserve_answer}
+use Rattle.qsg_logs.specs.Writers.{reserved as reserved_writer, released, reserve_answer}
 use Rattle.qsg_logs.proofs.Holding.{drawn_held, never_less, reserved_held, fall_back_less, fall_back_held}
 use Rattle.qsg_logs.proofs.Within.{tied_fewer}
 use Rattle.qsg_unitlog.proofs.Lists.{same_is}
 use Rattle.qsg_parts.specs.Owned.{Owned, HasMember}
 use Rattle.qsg_steady.specs.Standing.{pages_of as pages_of_unit, SparesOthers}
-use Rattle.qsg_steady.specs.Steady.{tasks_of, written_by, writing, IsWithin, IsSteady}
+use Rattle.qsg_steady.specs.Steady.{tasks_of, IsLive, written_by, writing, IsLawful, IsSteady}
 use Rattle.qsg_steady.specs.Actions.{at_log, AreFree, reserved, drawn, fallen}
 use Rattle.qsg_steady.proofs.Places.{log_same, log_other, task_sets, latch_same, written_same, writing_with}
 use Rattle.qsg_steady.proofs.Seen.{is_free, tied_more, seen_beside}
-use Rattle.qsg_steady.proofs.Moving.{AreBeside, by_member, seen_same, steady_moved}
+use Rattle.qsg_steady.proofs.Moving.{AreBeside, IsKeptTask, by_member, behind_later, behind_sets, steady_moved}
 use Rattle.qsg_steady.proofs.Sparing.{spared, unit_differs, reserved_beside, released_beside}
-use Rattle.qsg_steady.proofs.Acting.{with_kept, tasked, member_five, seen_of, hardening_same, hardening_stays}
+use Rattle.qsg_steady.proofs.Acting.{with_kept, tasked, member_five, held_of, seen_of, hardening_same, hardening_stays, none_tasked}
 
 total_cons : (r : Reservation) (rs : List Reservation) → total (r ∷ rs) ≡ r.pages + total rs
 total_cons r rs = sum_by-cons pages_of r rs
@@ -69,42 +68,52 @@ beside_log p m y = record {
   log = λ k differ. log_other m k y p.logs differ;
 }
 
-pub relogged : (a b : ℕ) (p : Owned) (m : Member) (rs : List Reservation) (fillings : List Filling) (s : IsSteady a b p) → HasMember m p
-    → (IsTied (s.rest.logs m).keep (log_in m p.logs).writer (log_in m p.logs).bytes → IsTied (s.rest.logs m).keep (with_kept m rs fillings p).writer (log_in m p.logs).bytes)
-    → AreHeld (tasks_of (manager_in m p.managers)) (with_kept m rs fillings p) → IsSteady a b (record p { logs = with_log m (with_kept m rs fillings p) p.logs })
-relogged a b p m rs fillings s has tied held =
+pub relogged : (a b : ℕ) (p : Owned) (m : Member) (rs : List Reservation) (fillings : List Filling) → IsSteady a b p → HasMember m p
+    → AreHeld (tasks_of (manager_in m p.managers)) (with_kept m rs fillings p)
+    → ((l : IsLawful p) → IsTied (l.rest.logs m).keep (log_in m p.logs).writer (log_in m p.logs).bytes → IsTied (l.rest.logs m).keep (with_kept m rs fillings p).writer (log_in m p.logs).bytes)
+    → IsSteady a b (record p { logs = with_log m (with_kept m rs fillings p) p.logs })
+relogged a b p m rs fillings s has held tied =
     let x = manager_in m p.managers in
     let kept = with_kept m rs fillings p in
-    let there : log_in m (with_log m kept p.logs) ≡ kept = log_same m kept p.logs has.log in
-    let seen = seen_beside m (s.rest.logs m) x x p.repo (log_in m p.logs) rs fillings tied refl refl (λ w hardens. refl) held (seen_of a b p m s has) in
     let q = record p { logs = with_log m kept p.logs } in
-    steady_moved a b a b p q m System s.rest s (omega arith) (beside_log p m kept)
-    (record { five = member_five a b p m s has; others = λ w differ. refl; own = s.own m System; within = s.within m System; short = s.short m System })
-    refl (record { logs = λ k differ. refl }) (record { history = s.mirrored.history; failed = s.mirrored.failed; tops = s.mirrored.tops })
-    s.laws s.named (seen_same m (s.rest.logs m) (s.rest.logs m) x x p.repo kept (log_in m q.logs) refl refl there seen)
-    s.room (record { names = s.counted.names; ids = s.counted.ids })
+    steady_moved a b a b p q m System x kept s has (omega arith) (beside_log p m kept) refl refl (log_same m kept p.logs has.log) refl (none_tasked a b p m s has) held
+    (behind_later m x p.repo (log_in m p.logs) kept (omega arith) (s.behind m has.manager)) s.room (record { names = s.counted.names; ids = s.counted.ids })
+    (λ tells l. record {
+      rest = l.rest;
+      others = λ k differ. refl;
+      mirrored = record { history = l.mirrored.history; failed = l.mirrored.failed; tops = l.mirrored.tops };
+      laws = l.laws;
+      seen = seen_beside m (l.rest.logs m) x x p.repo (log_in m p.logs) rs fillings (tied l) refl refl (λ w hardens. refl) (seen_of p m l has);
+    })
+
+-- pages that are free from the page on that the repository keeps are so as the machine sees the log
+free_more : (p : Owned) (m : Member) (u : UnitName) (need : ℕ) (l : IsLawful p) → HasMember m p → reserve_answer u need (keep m p.repo) (log_in m p.logs).writer ≡ Ok tt
+    → IsTied (l.rest.logs m).keep (log_in m p.logs).writer (log_in m p.logs).bytes → IsTied (l.rest.logs m).keep (reserved_writer u need (log_in m p.logs).writer) (log_in m p.logs).bytes
+free_more p m u need l has free =
+    let log = log_in m p.logs in
+    tied_more u need (l.rest.logs m).keep log.writer log.bytes (is_free u need (l.rest.logs m).keep log.writer (subst (λ (k : ℕ). reserve_answer u need k log.writer ≡ Ok tt) (sym (seen_of p m l has).keep) free)) (total-besides-le u log.writer.reserved)
 
 pub reserved_steady : (a b : ℕ) (p : Owned) (m : Member) (t : TaskNo) (u : UnitName) (ops : List (StructNo × Op)) (claims : List Claim) (logged : Option ℕ)
     → IsSteady a b p → HasMember m p → task_at m t p.managers ≡ open_task u ops claims → AreFree m t u logged p → IsSteady a b (reserved m t u logged p)
 reserved_steady a b p m t u ops claims logged s has opened free =
     let log = log_in m p.logs in
-    let seen = seen_of a b p m s has in
     let need = need_of t logged log in
     let tasks = tasks_of (manager_in m p.managers) in
+    let held = held_of a b p m s has in
     relogged a b p m (besides u log.writer.reserved ++ record { unit = u; pages = need } ∷ []) log.fillings s has
-    (tied_more u need (s.rest.logs m).keep log.writer log.bytes (is_free u need (s.rest.logs m).keep log.writer (subst (λ (k : ℕ). reserve_answer u need k log.writer ≡ Ok tt) (sym seen.keep) free)) (total-besides-le u log.writer.reserved))
-    (reserved_held tasks log t u need seen.held (ap (λ (x : Task). x.unit) opened) (ap (λ (x : Task). is_hardening x.stage) opened) (never_less tasks log t u ops claims logged seen.held opened))
+    (reserved_held tasks log t u need held (ap (λ (x : Task). x.unit) opened) (ap (λ (x : Task). is_hardening x.stage) opened) (never_less tasks log t u ops claims logged held opened))
+    (λ l. free_more p m u need l has free)
 
-pub fallen_by : (a b : ℕ) (p : Owned) (m : Member) (t : TaskNo) (u : UnitName) (some : Bool) (s : IsSteady a b p) → HasMember m p
+pub fallen_by : (a b : ℕ) (p : Owned) (m : Member) (t : TaskNo) (u : UnitName) (some : Bool) → IsSteady a b p → HasMember m p
     → AreHeld (tasks_of (manager_in m p.managers)) (fallen_back t u some (log_in m p.logs)) → (some ≡ true → need_of t None (log_in m p.logs) ≤ pages_for u (log_in m p.logs).writer.reserved)
     → IsSteady a b (at_log m (fallen_back t u some) p)
 fallen_by a b p m t u true s has held less =
     let log = log_in m p.logs in
-    relogged a b p m (besides u log.writer.reserved ++ record { unit = u; pages = need_of t None log } ∷ []) log.fillings s has
-    (tied_fewer (s.rest.logs m).keep log.writer _ log.bytes (omega (arith, total-push (besides u log.writer.reserved) (record { unit = u; pages = need_of t None log }), others_and_own u log.writer.reserved, less refl))) held
+    relogged a b p m (besides u log.writer.reserved ++ record { unit = u; pages = need_of t None log } ∷ []) log.fillings s has held
+    (λ l. tied_fewer (l.rest.logs m).keep log.writer _ log.bytes (omega (arith, total-push (besides u log.writer.reserved) (record { unit = u; pages = need_of t None log }), others_and_own u log.writer.reserved, less refl)))
 fallen_by a b p m t u false s has held less =
     let log = log_in m p.logs in
-    relogged a b p m (besides u log.writer.reserved) log.fillings s has (tied_fewer (s.rest.logs m).keep log.writer _ log.bytes (total-besides-le u log.writer.reserved)) held
+    relogged a b p m (besides u log.writer.reserved) log.fillings s has held (λ l. tied_fewer (l.rest.logs m).keep log.writer _ log.bytes (total-besides-le u log.writer.reserved))
 
 some_ops : (n : ℕ) → nat_lt 0 n ≡ true → 0 < n
 some_ops n is = grind (arith, nat_tests)
@@ -115,7 +124,7 @@ fallen_steady a b p t u ops claims s has opened =
     let m = u.member in
     let log = log_in m p.logs in
     let tasks = tasks_of (manager_in m p.managers) in
-    let held = (seen_of a b p m s has).held in
+    let held = (held_of a b p m s has) in
     let same : nat_lt 0 (length (task_at m t p.managers).ops) ≡ nat_lt 0 (length ops) = ap (λ (x : Task). nat_lt 0 (length x.ops)) opened in
     fallen_by a b p m t u (nat_lt 0 (length (task_at m t p.managers).ops)) s has
     (subst (λ (z : Bool). AreHeld tasks (fallen_back t u z log)) (sym same) (fall_back_held tasks log t u ops claims held opened))
@@ -126,7 +135,7 @@ fallen_steady a b p t u ops claims s has opened =
 pub reserving_spares : (a b : ℕ) (p : Owned) (m : Member) (t : TaskNo) (u : UnitName) (n : ℕ) → IsSteady a b p → HasMember m p → (task_at m t p.managers).unit ≡ Some u → SparesOthers m t p (at_log m (with_reserved u n) p)
 reserving_spares a b p m t u n s has holds =
     let log = log_in m p.logs in
-    let held = (seen_of a b p m s has).held in
+    let held = (held_of a b p m s has) in
     spared m t p (at_log m (with_reserved u n) p) (beside_log p m (with_reserved u n log)) (record {
       tasks = λ w differ. refl;
       fillings = λ w differ. ap (λ (l : KeptLog). filling_of w l) (log_same m (with_reserved u n log) p.logs has.log);
@@ -139,7 +148,7 @@ releasing_spares : (a b : ℕ) (p : Owned) (m : Member) (t : TaskNo) (u : UnitNa
 releasing_spares a b p m t u s has holds =
     let log = log_in m p.logs in
     let after : KeptLog = record log { writer = record log.writer { reserved = besides u log.writer.reserved } } in
-    let held = (seen_of a b p m s has).held in
+    let held = (held_of a b p m s has) in
     spared m t p (record p { logs = with_log m after p.logs }) (beside_log p m after) (record {
       tasks = λ w differ. refl;
       fillings = λ w differ. ap (λ (l : KeptLog). filling_of w l) (log_same m after p.logs has.log);
@@ -161,7 +170,7 @@ fallen_spares a b p t u s has holds = falling_spares a b p u.member t u (nat_lt 
 
 -- no task holds the next name
 pub next_is_free : (a b : ℕ) (p : Owned) (m : Member) → IsSteady a b p → (w : TaskNo) → HoldsUnit (tasks_of (manager_in m p.managers)) (next_name m p.managers) w → ⊥
-next_is_free a b p m s w holds = let drawn = (s.laws.in_hand (next_name m p.managers) w holds).drawn in omega (arith, drawn)
+next_is_free a b p m s w holds = omega (arith, (s.live m w (next_name m p.managers) holds).drawn)
 
 abbrev drawn_manager : Member → TaskNo → Owned → Manager
 drawn_manager m t p = record (manager_in m p.managers) { next = (manager_in m p.managers).next + 1; tasks = with_task_in t (open_task (next_name m p.managers) [] []) (manager_in m p.managers).tasks }
@@ -222,37 +231,44 @@ drawn_steady a b p m t logged s has up none free =
     let rs = besides u log.writer.reserved ++ record { unit = u; pages = need } ∷ [] in
     let kept = with_kept m rs log.fillings p in
     let q = drawn m t logged p in
-    let seen = seen_of a b p m s has in
     let five = member_five a b p m s has in
     let idle_is : task_at m t p.managers ≡ idle = s.named m t none in
-    let change = draw_is_draw s.rest p.structures p.managers m t (record { member = record { within = has.manager; five = five }; up = up; free = idle_is }) in
     let sets : Sets t y (tasks_of old) (tasks_of x) = task_sets t y old five in
-    let first : AreHeld (tasks_of x) log = drawn_held (tasks_of old) (tasks_of x) log t u seen.held idle_is (next_is_free a b p m s) sets in
+    let first : AreHeld (tasks_of x) log = drawn_held (tasks_of old) (tasks_of x) log t u (held_of a b p m s has) idle_is (next_is_free a b p m s) sets in
     let held : AreHeld (tasks_of x) kept = reserved_held (tasks_of x) log t u need first (ap (λ (z : Task). z.unit) sets.here) (ap (λ (z : Task). is_hardening z.stage) sets.here) (never_less (tasks_of x) log t u [] [] logged first sets.here) in
-    let tied = tied_more u need (s.rest.logs m).keep log.writer log.bytes (is_free u need (s.rest.logs m).keep log.writer (subst (λ (k : ℕ). reserve_answer u need k log.writer ≡ Ok tt) (sym seen.keep) free)) (total-besides-le u log.writer.reserved) in
     let before : is_hardening (task_in t old.tasks).stage ≡ false = ap (λ (z : Task). is_hardening z.stage) idle_is in
-    let now = seen_beside m (s.rest.logs m) old x p.repo log rs log.fillings tied refl refl (hardening_stays t y old five before) held seen in
     let here : manager_in m q.managers ≡ x = drawn_here m t p has.manager in
-    let there : log_in m q.logs ≡ kept = log_same m kept p.logs has.log in
-    let task : task_at m t q.managers ≡ y = ap (λ (z : Manager). task_in t z.tasks) here ∙ sets.here in
     let latch = written_same old x (latch_same old.tasks x.tasks (hardening_same t y old five before)) in
-    steady_moved a b a (b + 1) p q m t s.rest s (omega arith) (beside_drawn p m t kept)
+    steady_moved a b a (b + 1) p q m t x kept s has (omega arith) (beside_drawn p m t kept) refl here (log_same m kept p.logs has.log) refl
     (record {
-      five = ap (λ (z : Manager). length z.tasks) here ∙ length-set old.tasks (task_number t) y ∙ five;
-      others = λ w differ. ap (λ (z : Manager). task_in w z.tasks) here ∙ sets.others w differ;
-      own = λ v is. ap (λ (z : UnitName). z.member) (same_Some v u (sym is ∙ ap (λ (z : Task). z.unit) task));
-      within = subst (λ (z : Task). AllByRecursion (IsWithin (length p.structures)) z.claims) (sym task) tt;
-      short = subst (λ (z : Task). length z.ops ≤ a) (sym task) (omega arith);
+      five = length-set old.tasks (task_number t) y ∙ five;
+      others = sets.others;
+      task = subst (IsKeptTask m a (length p.structures) x) (sym sets.here) (record {
+        named = λ nameless. absurd (none-some u (sym nameless));
+        own = λ v is. ap (λ (z : UnitName). z.member) (same_Some v u (sym is));
+        live = λ v is. subst (IsLive x) (same_Some u v is) (record { up = up; incarnation = refl; drawn = omega arith });
+        within = tt;
+        short = omega arith;
+        paired = λ open_yet. refl;
+      });
+      up = refl;
+      incarnation = refl;
+      next = omega arith;
     })
-    refl (record { logs = λ k differ. refl }) (record { history = s.mirrored.history; failed = s.mirrored.failed; tops = s.mirrored.tops })
-    (laws_stay _ _ change s.laws) (named_stays _ _ change s.named)
-    (seen_same m (s.rest.logs m) (s.rest.logs m) x (manager_in m q.managers) p.repo kept (log_in m q.logs) refl here there now)
+    held (behind_sets m t y old x p.repo log kept sets (omega arith) (λ page is. absurd (none-some page is)) (s.behind m has.manager))
     (omega (arith, drawn_writing m t p has.manager latch, s.room))
     (record {
       names = by_member (λ k. (manager_in k q.managers).next ≤ 1 + a + (b + 1)) m
           (subst (λ (z : Manager). z.next ≤ 1 + a + (b + 1)) (sym here) (omega (arith, s.counted.names m)))
           (λ k differ. subst (λ (z : Manager). z.next ≤ 1 + a + (b + 1)) (sym (drawn_other m k t p differ)) (omega (arith, s.counted.names k)));
       ids = s.counted.ids;
+    })
+    (λ tells l. record {
+      rest = l.rest;
+      others = λ k differ. refl;
+      mirrored = record { history = l.mirrored.history; failed = l.mirrored.failed; tops = l.mirrored.tops };
+      laws = laws_stay _ _ (draw_is_draw l.rest p.structures p.managers m t (record { member = record { within = has.manager; five = five }; up = up; free = idle_is })) l.laws;
+      seen = seen_beside m (l.rest.logs m) old x p.repo log rs log.fillings (free_more p m u need l has free) refl refl (hardening_stays t y old five before) (seen_of p m l has);
     })
 
 -- the next name is that of no task

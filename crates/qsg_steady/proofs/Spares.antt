@@ -27,7 +27,7 @@ use Rattle.qsg_steady.specs.Steady.{tasks_of, IsSteady}
 use Rattle.qsg_steady.specs.Actions.{put, got, begun, IsWritten, IsUnwritten, paged, hardened, given_up, settled, ended, published}
 use Rattle.qsg_steady.proofs.Places.{log_same, filling_other, task_other}
 use Rattle.qsg_steady.proofs.Sparing.{spared, unit_differs, reserved_beside, released_beside, advanced_beside}
-use Rattle.qsg_steady.proofs.Acting.{tasked, seen_of, beside_at}
+use Rattle.qsg_steady.proofs.Acting.{tasked, held_of, beside_at}
 use Rattle.qsg_steady.proofs.Reserving.{beside_log}
 use Rattle.qsg_steady.proofs.Ending.{log_kept}
 
@@ -77,7 +77,7 @@ got_spares a b p t u c e logged s has holds =
     let log = log_in m p.logs in
     let recorded = with_record_of t logged log in
     acted_spares p m t _ _ _ has (length-set p.structures (structure_number c.structure - 1) _) (λ w differ. filling_other t w (with_operation logged (filling_of t log)) log differ)
-    (λ w differ. reserved_beside (task_at m w p.managers).unit u (need_of t None recorded) log.writer.reserved (unit_differs (tasks_of (manager_in m p.managers)) log t w u (seen_of a b p m s has).held holds differ))
+    (λ w differ. reserved_beside (task_at m w p.managers).unit u (need_of t None recorded) log.writer.reserved (unit_differs (tasks_of (manager_in m p.managers)) log t w u (held_of a b p m s has) holds differ))
 
 pub begun_spares : (a b : ℕ) (p : Owned) (t : TaskNo) (u : UnitName) (pages : List (List ℕ)) → IsSteady a b p → HasMember u.member p → SparesOthers u.member t p (begun u t pages p)
 begun_spares a b p t u pages s has = acted_spares p u.member t _ p.structures (with_begun u pages (log_in u.member p.logs)) has refl (λ w differ. refl) (λ w differ. refl)
@@ -88,7 +88,7 @@ written_fillings old new w same = ap (λ f. filling_of w (record old { fillings 
 written_pages : (a b : ℕ) (p : Owned) (m : Member) (t w : TaskNo) (log : KeptLog) → IsSteady a b p → HasMember m p → is_hardening (task_at m t p.managers).stage ≡ true → log.writer ≡ advanced (log_in m p.logs).writer → (task_number w ≡ task_number t → ⊥)
     → pages_of (task_at m w p.managers).unit log.writer.reserved ≡ pages_of (task_at m w p.managers).unit (log_in m p.logs).writer.reserved
 written_pages a b p m t w log s has hardens writer differ =
-    ap (λ (l : LogState). pages_of (task_at m w p.managers).unit l.reserved) writer ∙ advanced_beside (tasks_of (manager_in m p.managers)) (log_in m p.logs) t w (seen_of a b p m s has).held hardens differ
+    ap (λ (l : LogState). pages_of (task_at m w p.managers).unit l.reserved) writer ∙ advanced_beside (tasks_of (manager_in m p.managers)) (log_in m p.logs) t w (held_of a b p m s has) hardens differ
 
 pub paged_spares : (a b : ℕ) (p : Owned) (m : Member) (t : TaskNo) (log : KeptLog) → IsSteady a b p → HasMember m p → is_hardening (task_at m t p.managers).stage ≡ true → IsWritten (log_in m p.logs) log → SparesOthers m t p (paged m log p)
 paged_spares a b p m t log s has hardens written = logged_spares p m t log has (λ w differ. written_fillings (log_in m p.logs) log w written.fillings) (λ w differ. written_pages a b p m t w log s has hardens written.writer differ)
@@ -113,7 +113,7 @@ ended_spares a b p t u s has holds =
     let m = u.member in
     let log = log_in m p.logs in
     acted_spares p m t _ p.structures (with_ended t u log) has refl (λ w differ. filling_other t w no_pages log differ)
-    (λ w differ. released_beside (task_at m w p.managers).unit u log.writer.reserved (unit_differs (tasks_of (manager_in m p.managers)) log t w u (seen_of a b p m s has).held holds differ))
+    (λ w differ. released_beside (task_at m w p.managers).unit u log.writer.reserved (unit_differs (tasks_of (manager_in m p.managers)) log t w u (held_of a b p m s has) holds differ))
 
 pub published_spares : (page : ℕ) (p : Owned) (m : Member) (t : TaskNo) → SparesOthers m t p (published m page p)
 published_spares page p m t k w other = refl

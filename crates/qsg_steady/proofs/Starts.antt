@@ -1,15 +1,19 @@
 -- pages of a log at which runs begin
 use Rattle.std.proofs.Common.{◌≡◌, ℕ, ◌+◌, ◌<◌, ◌≤◌, List, [], ◌∷◌, ◌++◌, Bool, true, false, refl, sym, ap, subst, ◌∙◌, cond, arith, true≢false, eqb-true, eq-eqb}
 use Rattle.std.specs.Prelude.{◌||◌, ◌==◌, filter, nat_le, min}
-use Rattle.std.specs.List.{AllByRecursion, list_any}
+use Rattle.std.specs.List.{AllByRecursion, list_any, flat_map}
 use Rattle.std.proofs.lemmas.Bool.Decides.{nat_tests}
+use Rattle.qsg_num.specs.declared.seats.Member.{Member}
 use Rattle.qsg_num.specs.declared.ids.UnitName.{UnitName}
 use Rattle.qsg_num.specs.Ids.{same_unit}
 use Rattle.qsg_group.specs.Group.{Run}
 use Rattle.qsg_group.specs.Observers.{has_run}
 use Rattle.qsg_group.specs.Laws.{AreRuns, RunsAt}
-use Rattle.qsg_repo.specs.Keeping.{least}
-use Rattle.qsg_unitlog.proofs.Lists.{or_true}
+use Rattle.qsg_repo.specs.Keeping.{least, keep, noted_pages, pages_held}
+use Rattle.qsg_repo.specs.Tables.{Repository, low_of}
+use Rattle.qsg_unitlog.proofs.Lists.{or_true, or_false, neither}
+use Rattle.qsg_logs.proofs.Owners.{all_weaker}
+use Rattle.qsg_steady.specs.Steady.{pages_named}
 
 -- ---- the least of pages
 
@@ -166,3 +170,64 @@ unit_starts page from next u (run ∷ runs) are is at = by (same_unit u run.unit
     by : (b : Bool) → same_unit u run.unit ≡ b → (b || has_run u runs) ≡ true → (has_run u runs ≡ true → (list_any (begins_at page) runs ≡ true) × (page < next)) → (list_any (begins_at page) (run ∷ runs) ≡ true) × (page < next)
     by true here found more = (ap (λ z. z || list_any (begins_at page) runs) (eq-eqb run.first page (at.0 here)), omega (arith, at.0 here, before (run.first + 1) next runs are.1))
     by false other found more = let m = more found in (or_true (begins_at page run) (list_any (begins_at page) runs) m.0, m.1)
+
+-- what is kept of the runs from a page on, seen from a later page on
+pub from_later : (page at : ℕ) (runs : List Run) → page ≤ at → filter (is_from at) (filter (is_from page) runs) ≡ filter (is_from at) runs
+from_later page at [] later = refl
+from_later page at (run ∷ runs) later = by (is_from page run) refl (is_from at run) refl (from_later page at runs later)
+  where
+    before : (a b c : ℕ) → a ≤ b → nat_le b c ≡ true → nat_le a c ≡ false → ⊥
+    before a b c less more fails = grind (arith, nat_tests)
+
+    kept : (b : Bool) → is_from at run ≡ b → filter (is_from at) (filter (is_from page) runs) ≡ filter (is_from at) runs → filter (is_from at) (run ∷ filter (is_from page) runs) ≡ cond b (run ∷ filter (is_from at) runs) (filter (is_from at) runs)
+    kept true is rest = ap (λ b. cond b (run ∷ filter (is_from at) (filter (is_from page) runs)) (filter (is_from at) (filter (is_from page) runs))) is ∙ ap (λ rs. run ∷ rs) rest
+    kept false is rest = ap (λ b. cond b (run ∷ filter (is_from at) (filter (is_from page) runs)) (filter (is_from at) (filter (is_from page) runs))) is ∙ rest
+
+    by : (a : Bool) → is_from page run ≡ a → (b : Bool) → is_from at run ≡ b → filter (is_from at) (filter (is_from page) runs) ≡ filter (is_from at) runs
+        → filter (is_from at) (cond a (run ∷ filter (is_from page) runs) (filter (is_from page) runs)) ≡ cond b (run ∷ filter (is_from at) runs) (filter (is_from at) runs)
+    by true first b second rest = kept b second rest
+    by false first true second rest = absurd (before page at run.first later second first)
+    by false first false second rest = rest
+
+-- a unit without a run has none from a page on
+pub none_later : (page : ℕ) (u : UnitName) (runs : List Run) → has_run u runs ≡ false → has_run u (filter (is_from page) runs) ≡ false
+none_later page u [] none = refl
+none_later page u (run ∷ runs) none = let parts = neither (same_unit u run.unit) (has_run u runs) none in by (is_from page run) parts.0 (none_later page u runs parts.1)
+  where
+    by : (b : Bool) → same_unit u run.unit ≡ false → has_run u (filter (is_from page) runs) ≡ false → has_run u (cond b (run ∷ filter (is_from page) runs) (filter (is_from page) runs)) ≡ false
+    by true first rest = or_false (same_unit u run.unit) (has_run u (filter (is_from page) runs)) first rest
+    by false first rest = rest
+
+-- a run that begins at or behind a page comes behind all that are kept from it on
+pub pushed_later : (page : ℕ) (run : Run) (runs : List Run) → page ≤ run.first → filter (is_from page) (runs ++ run ∷ []) ≡ filter (is_from page) runs ++ run ∷ []
+pushed_later page run [] less = ap (λ b. cond b (run ∷ []) []) (at_least page run.first less)
+  where
+    at_least : (a b : ℕ) → a ≤ b → nat_le a b ≡ true
+    at_least a b less = grind (arith, nat_tests)
+pushed_later page run (x ∷ runs) less = by (is_from page x) (pushed_later page run runs less)
+  where
+    by : (b : Bool) → filter (is_from page) (runs ++ run ∷ []) ≡ filter (is_from page) runs ++ run ∷ []
+        → cond b (x ∷ filter (is_from page) (runs ++ run ∷ [])) (filter (is_from page) (runs ++ run ∷ [])) ≡ cond b (x ∷ filter (is_from page) runs) (filter (is_from page) runs) ++ run ∷ []
+    by true rest = ap (λ rs. x ∷ rs) rest
+    by false rest = rest
+
+-- ---- pages that the repository names
+
+-- all of them are kept
+pub named_kept : (m : Member) (repo : Repository) → AllByRecursion (λ n. keep m repo ≤ n) (pages_named m repo)
+named_kept m repo =
+    let noted = noted_pages m repo in
+    let held = flat_map (pages_held m) repo.holds in
+    let middle = least (low_of m repo).number noted in
+    let last : keep m repo ≤ middle = least_first middle held in (
+      omega (arith, last, least_first (low_of m repo).number noted),
+      all_joint (λ n. keep m repo ≤ n) noted held (all_weaker (λ n. middle ≤ n) (λ n. keep m repo ≤ n) noted (λ n h. omega (arith, last, h)) (least_all (low_of m repo).number noted)) (least_all middle held),
+    )
+
+-- what holds of each of them holds of the first page that is kept
+pub named_least : (P : ℕ → Type 0) (m : Member) (repo : Repository) → AllByRecursion P (pages_named m repo) → P (keep m repo)
+named_least P m repo all =
+    let noted = noted_pages m repo in
+    let held = flat_map (pages_held m) repo.holds in
+    let parts = all_apart P noted held all.1 in
+    least_of P (least (low_of m repo).number noted) held (least_of P (low_of m repo).number noted all.0 parts.0) parts.1

@@ -2,6 +2,7 @@
 use Rattle.std.specs.Prelude.{ℕ, ◌≡◌, ◌≤◌, ◌<◌, ◌*◌, true, false, [], length, None, replicate}
 use Rattle.std.specs.List.{AllByRecursion}
 use Rattle.qsg_num.specs.declared.seats.Member.{Member}
+use Rattle.qsg_num.specs.Seats.{member_number}
 use Rattle.qsg_disk.specs.Byte.{zero_byte}
 use Rattle.qsg_lists.specs.declared.parts.State.TheVariants.{Active}
 use Rattle.qsg_group.specs.Group.{idle}
@@ -12,6 +13,7 @@ use Rattle.qsg_lists.specs.Structures.{ListStructure}
 use Rattle.qsg_logs.specs.Kept.{KeptLog, no_fillings}
 use Rattle.qsg_logs.specs.Writers.{new_writer}
 use Rattle.qsg_parts.specs.Owned.{Owned, HasStructures}
+use Rattle.qsg_steady.specs.Steady.{IsListed}
 
 -- a member in its first incarnation, whose tasks hold nothing
 abbrev pub new_manager : Manager
@@ -31,8 +33,8 @@ pub record IsNewStructure (structure : ListStructure) : Type 0 where
   pub last : structure.last ≡ 0
   pub entries : structure.entries ≡ []
 
--- Structures and logs are new, members are up for the first time, no incarnation failed, and the repository has no
--- note and no hold.
+-- Structures and logs are new, members are up for the first time, as the repository has them, no incarnation failed,
+-- and it has no note and no hold.
 pub record IsNew (p : Owned) : Type 0 where
   pub members : length p.logs ≡ length p.managers
   pub few : length p.managers ≤ 8
@@ -40,6 +42,7 @@ pub record IsNew (p : Owned) : Type 0 where
   pub managers : AllByRecursion (λ (x : Manager). x ≡ new_manager) p.managers
   pub logs : AllByRecursion IsNewLog p.logs
   pub structures : AllByRecursion IsNewStructure p.structures
+  pub listed : (m : Member) → member_number m ≤ length p.managers → IsListed m new_manager p.repo
   pub unfailed : (m : Member) (i : ℕ) → is_unresolved m (record { number = i }) p.repo ≡ false
   pub lows : p.repo.lows ≡ replicate 8 (page_at 0)
   pub notes : p.repo.notes ≡ replicate 4 None

@@ -1,19 +1,24 @@
--- What a group keeps between any two steps.
-use Rattle.std.specs.Prelude.{ℕ, ◌+◌, ◌≤◌, ◌≡◌, Bool, true, ◌==◌, ◌||◌, List, ◌∷◌, ◌++◌, length, Option, Some, None, is_some, if◌then◌else◌, sum_by}
+-- What a group keeps between any two steps: what holds over all devices, and where each log tells its bytes also the
+-- laws of the machine.
+use Rattle.std.specs.Prelude.{ℕ, ◌+◌, ◌<◌, ◌≤◌, ◌≡◌, Bool, true, ◌&&◌, List, ◌∷◌, ◌++◌, length, Option, Some, None, is_some, if◌then◌else◌, sum_by, count_by}
 use Rattle.std.specs.List.{AllByRecursion, list_any, flat_map}
 use Rattle.qsg_num.specs.declared.seats.Member.{Member}
 use Rattle.qsg_num.specs.declared.seats.StructNo.{StructNo}
 use Rattle.qsg_num.specs.declared.seats.TaskNo.{TaskNo}
+use Rattle.qsg_num.specs.declared.ids.Incarnation.{Incarnation}
+use Rattle.qsg_num.specs.declared.ids.PageNo.{PageNo}
 use Rattle.qsg_num.specs.declared.ids.UnitName.{UnitName}
 use Rattle.qsg_num.specs.Seats.{member_number, structure_number}
 use Rattle.qsg_model.specs.declared.history.Op.{Op}
+use Rattle.qsg_repo.specs.declared.lives.Life.{Life}
+use Rattle.qsg_repo.specs.Lives.{is_member, is_life, is_up}
 use Rattle.qsg_repo.specs.Tables.{Repository, low_of, note_at}
 use Rattle.qsg_repo.specs.Keeping.{keep, noted_pages, pages_held}
 use Rattle.qsg_repo.specs.Calls.{is_unresolved, noted_epoch}
 use Rattle.qsg_group.specs.declared.tasks.Claim.{Claim}
 use Rattle.qsg_group.specs.declared.tasks.Task.{Task}
 use Rattle.qsg_group.specs.Group.{Run, Log}
-use Rattle.qsg_group.specs.Observers.{logged_ops}
+use Rattle.qsg_group.specs.Observers.{logged_ops, runs_from, is_undecided}
 use Rattle.qsg_group.specs.Laws.{HasEnded, Laws}
 use Rattle.qsg_group.specs.Changes.{hardening_task}
 use Rattle.qsg_unitlog.specs.Tells.{Tells}
@@ -21,7 +26,7 @@ use Rattle.qsg_manager.specs.declared.managers.Manager.{Manager}
 use Rattle.qsg_manager.specs.Actions.{AreNamed}
 use Rattle.qsg_manager.specs.Facilities.{structure_in}
 use Rattle.qsg_manager.specs.Groups.{seat_of, Rest, group_of}
-use Rattle.qsg_manager.specs.Latches.{latch_of}
+use Rattle.qsg_manager.specs.Latches.{latch_of, needed_by}
 use Rattle.qsg_manager.specs.Storage.{task_in, manager_in, task_at}
 use Rattle.qsg_logs.specs.Held.{AreHeld}
 use Rattle.qsg_logs.specs.Kept.{KeptLog, log_in}
@@ -33,10 +38,6 @@ use Rattle.qsg_parts.specs.Owned.{Owned, HasStructures}
 abbrev pub pages_named : Member → Repository → List ℕ
 pages_named m repo = (low_of m repo).number ∷ (noted_pages m repo ++ flat_map (pages_held m) repo.holds)
 
--- a run begins at the page, or it is the first page that is kept, or the next one
-abbrev pub is_start : Log → ℕ → Bool
-is_start log page = (page == log.keep) || (page == log.next) || list_any (λ run. run.first == page) log.runs
-
 abbrev pub tasks_of : Manager → TaskNo → Task
 tasks_of manager t = task_in t manager.tasks
 
@@ -45,11 +46,17 @@ abbrev pub IsRunOf : (TaskNo → Task) → Option Run → Type 0
 IsRunOf tasks None = Unit {0}
 IsRunOf tasks (Some run) = (t : TaskNo) × (ops : List (StructNo × Op)) × (claims : List Claim) × (tasks t ≡ hardening_task run.unit ops claims run.first) × (run.told ≡ logged_ops ops claims)
 
--- The bytes of a log tell of the runs that the machine sees in it. Units that left pages of no whole run have ended.
-pub record IsTold (log : Log) (manager : Manager) (kept : KeptLog) : Type 0 where
+-- the bytes of a log tell, from a page on, of the runs that the machine sees in it
+abbrev pub TellsFrom : Log → KeptLog → List UnitName → Option Run → ℕ → Type 0
+TellsFrom log kept gone hand page = Tells page kept.writer gone (runs_from page log.runs) hand kept.bytes
+
+-- The bytes of a log tell of the runs that the machine sees in it, also from each of these pages on. Units that left pages
+-- of no whole run have ended.
+pub record IsTold (pages : List ℕ) (log : Log) (manager : Manager) (kept : KeptLog) : Type 0 where
   pub gone : List UnitName
   pub hand : Option Run
   pub tells : Tells log.keep kept.writer gone log.runs hand kept.bytes
+  pub later : AllByRecursion (TellsFrom log kept gone hand) pages
   pub ended : AllByRecursion (λ (u : UnitName). HasEnded u.incarnation.number (seat_of manager)) gone
   pub run : IsRunOf (tasks_of manager) hand
 
@@ -57,12 +64,38 @@ pub record IsTold (log : Log) (manager : Manager) (kept : KeptLog) : Type 0 wher
 pub record IsSeen (m : Member) (log : Log) (manager : Manager) (repo : Repository) (kept : KeptLog) : Type 0 where
   pub low : log.low ≡ (low_of m repo).number
   pub keep : log.keep ≡ keep m repo
-  pub starts : AllByRecursion (λ page. is_start log page ≡ true) (pages_named m repo)
   -- the next page is the writer's, or else the first one of the run in hand
   pub behind : log.next ≤ kept.writer.next
   pub next : kept.writer.hand ≡ None → log.next ≡ kept.writer.next
-  pub told : kept.tells ≡ true → IsTold log manager kept
-  pub held : AreHeld (tasks_of manager) kept
+  pub told : IsTold (pages_named m repo) log manager kept
+
+-- No page of a member's log that is still needed is one that its writer hasn't come to: neither the low page, nor those
+-- at which the runs of its units begin.
+pub record IsBehind (m : Member) (manager : Manager) (repo : Repository) (kept : KeptLog) : Type 0 where
+  pub low : (low_of m repo).number ≤ kept.writer.next
+  pub runs : (t : TaskNo) (first : PageNo) → needed_by (tasks_of manager t).stage ≡ Some first → first.number ≤ kept.writer.next
+
+-- ---- incarnations
+
+-- a unit is of the incarnation that is up, and its name was drawn
+pub record IsLive (manager : Manager) (u : UnitName) : Type 0 where
+  pub up : manager.up ≡ true
+  pub incarnation : u.incarnation ≡ manager.incarnation
+  pub drawn : u.seq < manager.next
+
+-- an incarnation that is up, as the repository has it
+abbrev pub is_up_life : Member → Incarnation → Life → Bool
+is_up_life m i l = is_life m i l && is_up l.fate
+
+-- The repository has given a member the incarnations up to its last one, which is up there while the member is up.
+pub record IsListed (m : Member) (manager : Manager) (repo : Repository) : Type 0 where
+  pub given : count_by (is_member m) repo.lives ≡ manager.incarnation.number
+  pub up : manager.up ≡ true → list_any (is_up_life m manager.incarnation) repo.lives ≡ true
+
+-- an incarnation was one of a member of the group, and has ended
+pub record IsOver (m : Member) (i : Incarnation) (managers : List Manager) : Type 0 where
+  pub member : member_number m ≤ length managers
+  pub ended : HasEnded i.number (seat_of (manager_in m managers))
 
 -- ---- the group
 
@@ -97,18 +130,35 @@ pub record IsCounted (answered busy : ℕ) (p : Owned) : Type 0 where
   pub names : (m : Member) → (manager_in m p.managers).next ≤ 1 + answered + busy
   pub ids : (s : StructNo) → (structure_in s p.structures).last ≤ answered
 
-pub record IsSteady (answered busy : ℕ) (p : Owned) : Type 0 where
-  pub shape : IsShaped p
+-- each log of the group tells its bytes
+abbrev pub AreTelling : Owned → Type 0
+AreTelling p = (m : Member) → member_number m ≤ length p.logs → (log_in m p.logs).tells ≡ true
+
+-- The laws of the machine hold of the group that it sees, and logs tell of the units that it sees in them.
+pub record IsLawful (p : Owned) : Type 0 where
   pub rest : Rest
   pub mirrored : IsMirrored rest p
   pub laws : Laws (group_of rest p.structures p.managers)
   pub logs : (m : Member) → member_number m ≤ length p.managers → IsSeen m (rest.logs m) (manager_in m p.managers) p.repo (log_in m p.logs)
-  -- a task without a name holds nothing, and a name is of its member
+
+pub record IsSteady (answered busy : ℕ) (p : Owned) : Type 0 where
+  pub shape : IsShaped p
+  -- a task without a name holds nothing, and a name is of its member, and live
   pub named : AreNamed (λ m t. task_at m t p.managers)
   pub own : (m : Member) (t : TaskNo) (u : UnitName) → (task_at m t p.managers).unit ≡ Some u → u.member ≡ m
+  pub live : (m : Member) (t : TaskNo) (u : UnitName) → (task_at m t p.managers).unit ≡ Some u → IsLive (manager_in m p.managers) u
   pub within : (m : Member) (t : TaskNo) → AllByRecursion (IsWithin (length p.structures)) (task_at m t p.managers).claims
-  -- each operation of a unit was answered
+  -- each operation of a unit was answered, and has a claim while the unit is undecided
   pub short : (m : Member) (t : TaskNo) → length (task_at m t p.managers).ops ≤ answered
+  pub paired : (m : Member) (t : TaskNo) → is_undecided (task_at m t p.managers).stage ≡ true → length (task_at m t p.managers).ops ≡ length (task_at m t p.managers).claims
+  -- what is reserved of each log is what its member's units need
+  pub held : (m : Member) → member_number m ≤ length p.managers → AreHeld (tasks_of (manager_in m p.managers)) (log_in m p.logs)
+  pub behind : (m : Member) → member_number m ≤ length p.managers → IsBehind m (manager_in m p.managers) p.repo (log_in m p.logs)
+  pub listed : (m : Member) → member_number m ≤ length p.managers → IsListed m (manager_in m p.managers) p.repo
+  -- incarnations that are unresolved have ended
+  pub over : (m : Member) (i : Incarnation) → is_unresolved m i p.repo ≡ true → IsOver m i p.managers
   -- the history has room for each unit that is being written
   pub room : writing p.managers ≤ p.history.room
   pub counted : IsCounted answered busy p
+  -- over a log that tells nothing, peers settle as their reader answers
+  pub lawful : AreTelling p → IsLawful p

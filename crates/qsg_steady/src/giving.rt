@@ -4,13 +4,16 @@ ghost use Rattle.std.specs.Prelude.{ℕ, ◌+◌, ◌≡◌, ◌<◌, ◌≤◌,
 ghost use Rattle.qsg_num.specs.declared.seats.Member.{Member};
 ghost use Rattle.qsg_num.specs.declared.seats.StructNo.{StructNo};
 ghost use Rattle.qsg_num.specs.declared.seats.TaskNo.{TaskNo};
+ghost use Rattle.qsg_num.specs.declared.ids.Incarnation.{Incarnation};
 ghost use Rattle.qsg_num.specs.declared.ids.UnitName.{UnitName};
 ghost use Rattle.qsg_num.specs.Seats.{member_number, structure_number};
 ghost use Rattle.qsg_model.specs.declared.history.Op.{Op};
 ghost use Rattle.qsg_logpage.specs.Log.{has_run};
 ghost use Rattle.qsg_logpage.specs.Reserved.{besides, pages_for};
 ghost use Rattle.qsg_repo.specs.Keeping.{keep};
+ghost use Rattle.qsg_repo.specs.Calls.{is_unresolved, next_incarnation};
 ghost use Rattle.qsg_group.specs.declared.tasks.Claim.{Claim};
+ghost use Rattle.qsg_group.specs.Group.{idle};
 ghost use Rattle.qsg_group.specs.Observers.{is_hardening, logged_ops};
 ghost use Rattle.qsg_group.specs.Changes.{open_task};
 ghost use Rattle.qsg_unitlog.specs.Units.{run_pages};
@@ -20,7 +23,7 @@ ghost use Rattle.qsg_manager.specs.Settles.{next_claim};
 ghost use Rattle.qsg_manager.specs.Storage.{manager_in, task_at, next_name};
 ghost use Rattle.qsg_logs.specs.Kept.{log_in};
 ghost use Rattle.qsg_parts.specs.Owned.{Owned, HasMember};
-ghost use Rattle.qsg_steady.specs.Steady.{IsSteady};
+ghost use Rattle.qsg_steady.specs.Steady.{IsLive, IsOver, AreTelling, IsLawful, IsSteady};
 
 /// Each of its members has a log.
 pub fn members_have_logs()
@@ -56,13 +59,40 @@ pub fn a_run_may_be_begun()
         → length (run_pages u (logged_ops ops claims) structures) ≤ pages_for u (log_in m p.logs).writer.reserved }
 {}
 
-/// A task that is hardening has its run in hand, and the history has room for its unit.
+/// A task that is hardening has its run in hand and is the only one of its member, and the history has room for its unit.
 pub fn a_page_may_be_written()
     ensures in_hand { (a b : ℕ) (p : Owned) (m : Member) (t : TaskNo) → IsSteady a b p → HasMember m p → is_hardening (task_at m t p.managers).stage ≡ true → IsSome (log_in m p.logs).writer.hand }
+    ensures only { (a b : ℕ) (p : Owned) (m : Member) (t w : TaskNo) → IsSteady a b p → HasMember m p → is_hardening (task_at m t p.managers).stage ≡ true → is_hardening (task_at m w p.managers).stage ≡ true → w ≡ t }
     ensures room { (a b : ℕ) (p : Owned) (m : Member) (t : TaskNo) → IsSteady a b p → HasMember m p → is_hardening (task_at m t p.managers).stage ≡ true → 0 < p.history.room }
 {}
 
 /// The structure of the claim that is settled next is one of the group's.
 pub fn a_mark_may_come_off()
     ensures { (a b : ℕ) (p : Owned) (m : Member) (t : TaskNo) → IsSteady a b p → IfSome (next_claim (task_at m t p.managers)) (λ c. structure_number c.connection.structure ≤ length p.structures) }
+{}
+
+/// Where each log tells its bytes, the laws of the machine hold of the group that it sees, and logs tell of its units.
+pub fn a_steady_group_is_lawful()
+    ensures { (a b : ℕ) (p : Owned) → AreTelling p → IsSteady a b p → IsLawful p }
+{}
+
+/// A unit that a task holds is of its member's incarnation that is up, and its name was drawn. No incarnation that is
+/// unresolved is that one.
+pub fn a_unit_in_hand_is_live()
+    ensures own { (a b : ℕ) (p : Owned) (m : Member) (t : TaskNo) (u : UnitName) → IsSteady a b p → (task_at m t p.managers).unit ≡ Some u → u.member ≡ m }
+    ensures live { (a b : ℕ) (p : Owned) (m : Member) (t : TaskNo) (u : UnitName) → IsSteady a b p → (task_at m t p.managers).unit ≡ Some u → IsLive (manager_in m p.managers) u }
+    ensures resolved { (a b : ℕ) (p : Owned) (m : Member) (t : TaskNo) (u : UnitName) → IsSteady a b p → (task_at m t p.managers).unit ≡ Some u → is_unresolved u.member u.incarnation p.repo ≡ false }
+{}
+
+/// An incarnation that is unresolved was one of a member of the group, and has ended. The next one that the repository
+/// gives a member is the one behind its last.
+pub fn an_unresolved_incarnation_has_ended()
+    ensures over { (a b : ℕ) (p : Owned) (m : Member) (i : Incarnation) → IsSteady a b p → is_unresolved m i p.repo ≡ true → IsOver m i p.managers }
+    ensures next { (a b : ℕ) (p : Owned) (m : Member) → IsSteady a b p → HasMember m p → next_incarnation m p.repo ≡ record { number = 1 + (manager_in m p.managers).incarnation.number } }
+{}
+
+/// The tasks of a member that is down hold nothing, and no run of it is in hand.
+pub fn a_member_that_is_down_is_idle()
+    ensures tasks { (a b : ℕ) (p : Owned) (m : Member) (t : TaskNo) → IsSteady a b p → (manager_in m p.managers).up ≡ false → task_at m t p.managers ≡ idle }
+    ensures hand { (a b : ℕ) (p : Owned) (m : Member) → IsSteady a b p → HasMember m p → (manager_in m p.managers).up ≡ false → (log_in m p.logs).writer.hand ≡ None }
 {}

@@ -1,5 +1,6 @@
-//! What a group keeps between any two steps, whoever made them: the machine's laws, over logs that tell of the units
-//! that the machine sees in them. Each action of a task keeps it, and leaves all other tasks as they stood.
+//! What a group keeps between any two steps, whoever made them: what is reserved, drawn and counted, and over logs that
+//! tell their bytes the machine's laws, with the units that it sees in them. Each action of a task keeps it, and leaves
+//! all other tasks as they stood.
 //!
 //! - `giving`: what it gives to those who make the next step.
 //! - `keeping`: what each action of a task keeps.
@@ -9,8 +10,9 @@ mod giving;
 mod keeping;
 
 pub use giving::{
-    a_mark_may_come_off, a_page_may_be_written, a_run_may_be_begun, members_have_logs,
-    names_and_ids_are_left, operations_have_claims, pages_may_be_reserved,
+    a_mark_may_come_off, a_member_that_is_down_is_idle, a_page_may_be_written, a_run_may_be_begun,
+    a_steady_group_is_lawful, a_unit_in_hand_is_live, an_unresolved_incarnation_has_ended,
+    members_have_logs, names_and_ids_are_left, operations_have_claims, pages_may_be_reserved,
 };
 pub use keeping::{
     a_backout_keeps_the_group_steady, a_begin_keeps_the_group_steady,

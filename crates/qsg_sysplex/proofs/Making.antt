@@ -7,6 +7,7 @@ use Rattle.qsg_objects.specs.declared.plans.Plan.{Plan}
 use Rattle.qsg_objects.specs.Registry.{Registry}
 use Rattle.qsg_manager.specs.declared.managers.Manager.{Manager}
 use Rattle.qsg_agenda.specs.Courses.{Course}
+use Rattle.qsg_steady.specs.Steady.{IsListed}
 use Rattle.qsg_steady.specs.Founding.{new_manager, IsNew, IsNewStructure}
 use Rattle.qsg_step.specs.States.{State, IsCourseRight}
 use Rattle.qsg_fit.specs.Outcomes.{IsPlaced}
@@ -20,7 +21,7 @@ use Rattle.qsg_sysplex.specs.Starting.{all_members, starts_of, new_repo, IsMade}
 use Rattle.qsg_sysplex.proofs.NewLogs as logs
 use Rattle.qsg_sysplex.proofs.NewStructures as structures
 use Rattle.qsg_sysplex.proofs.NewCourses as courses
-use Rattle.qsg_sysplex.proofs.NewRepo.{IsUnfailed, all_unfailed}
+use Rattle.qsg_sysplex.proofs.NewRepo.{IsUnfailed, all_unfailed, new_listed}
 
 all_same : (n : ℕ) → AllByRecursion (λ (x : Manager). x ≡ new_manager) (replicate n new_manager)
 all_same zero = tt
@@ -43,6 +44,7 @@ new_parts plan s can few made =
       managers = subst (AllByRecursion (λ (x : Manager). x ≡ new_manager)) (sym made.managers) (all_same (length plan.members));
       logs = logs.all_new plan.members s.parts.logs can.logs made.logs;
       structures = subst (AllByRecursion IsNewStructure) (sym made.structures) (structures.all_new plan.sizes);
+      listed = λ m there. subst (IsListed m new_manager) (sym made.repo) (new_listed m (length plan.members) _ _ _ _ (omega (arith, managers, there)));
       unfailed = λ m i. repo.unfailed m (record { number = i });
       lows = repo.lows;
       notes = repo.notes;
@@ -70,5 +72,5 @@ starts_fit plan can = omega (arith, courses.few_starts plan.works, can.few, can.
 pub new_kept : (s : State) → IsNewState s → IsKept s
 new_kept s new = record {
   sound = new_group_sound s new;
-  fits = new_answers_fit s new;
+  fits = λ telling. new_answers_fit s new;
 }

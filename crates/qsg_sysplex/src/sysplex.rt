@@ -14,7 +14,7 @@ use qsg_model::History;
 use qsg_num::{Actor, Member, StructNo};
 use qsg_objects::{MemberDefs, Plan, Sizes};
 use qsg_parts::Parts;
-use qsg_requests::{Answer, Cause};
+use qsg_requests::{Answer, Cause, Transcripts};
 use qsg_step::Step;
 use qsg_works::Works;
 use std::alloc::{AllocError, Global};
@@ -152,13 +152,6 @@ impl<D: Disk + Drop> Sysplex<D> {
         &self.working.agenda
     }
 
-    /// The answers of an actor so far, one for each of its first directives.
-    pub fn transcript(&self, actor: Actor) -> &[Answer]
-        ensures { result.now ≡ answers_of actor self.now.courses }
-    {
-        self.working.agenda.transcript(actor)
-    }
-
     /// What it owns: its structures, members, logs, repository, objects and history.
     pub fn parts(&self) -> &Parts<D>
         ensures { owned result.now ≡ self.now.parts }
@@ -238,5 +231,16 @@ impl<D: Disk + Drop> Sysplex<D> {
         ensures told { R.tells rig.new ≡ R.tells rig.old }
     {
         give_back(rig, self.working.parts.logs);
+    }
+}
+
+/// The answers of an actor so far, one for each of its first directives.
+impl<D: Disk + Drop> Transcripts for Sysplex<D> {
+    ghost use Rattle.qsg_agenda.specs.Courses.{answers_of};
+
+    ghost told = { λ s who. answers_of who s.courses };
+
+    fn transcript(&self, actor: Actor) -> &[Answer] {
+        self.working.agenda.transcript(actor)
     }
 }

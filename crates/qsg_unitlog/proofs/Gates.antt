@@ -1,4 +1,4 @@
--- whether a power cut leaves the run in hand whole, by the gate of its page
+-- whether a power cut leaves the page in hand whole, by its gate
 use Rattle.std.proofs.Common.{◌≡◌, ◌⊎◌, inl, inr, ℕ, zero, suc, ◌+◌, ◌-◌, ◌*◌, ◌/◌, ◌%◌, ◌<◌, ◌≤◌, Bool, true, false, not, ◌&&◌, ◌==◌, List, [], ◌∷◌, ◌++◌, length, take, drop, map, Option, None, Some, refl, sym, ap, subst, ◌∙◌, arith}
 use Rattle.std.specs.Prelude.{slice_index}
 use Rattle.std.specs.List.{AllZip}
@@ -12,9 +12,9 @@ use Rattle.qsg_logpage.specs.Page.{page_at, lap_of, with_lap, is_open_gate, is_s
 use Rattle.qsg_logpage.specs.Reserved.{total}
 use Rattle.qsg_logpage.specs.Log.{Hand, LogState, first_body, hand_body, InPhase, AtNext, IsTied, IsHeld, IsCutShort, is_body_safe, in_hand_of, pages_written}
 use Rattle.qsg_logpage.proofs.Cuts.{open_here, shut_here, pages_split, all_open, absent_shut, values-safe}
-use Rattle.qsg_unitlog.specs.Tells.{is_left_whole, is_run_whole}
+use Rattle.qsg_unitlog.specs.Tells.{is_left_whole}
 use Rattle.qsg_unitlog.proofs.Lists.{head_same, no_head}
-use Rattle.qsg_unitlog.proofs.Steps.{opens, written_length, last_is, test_true, test_false}
+use Rattle.qsg_unitlog.proofs.Steps.{opens, written_length, test_true, test_false}
 
 -- ---- the gate of a page
 
@@ -109,7 +109,7 @@ left_is keep log old new held tied cut = by (is_safely_open (log.next / log.size
         test_false (keep + length (log_pages new log.size keep)) (log.next + 1)
         (omega (arith, split, ap length (shut_here log.size new log.next (log.size - (log.next - keep)) e), tied.from))
 
--- ---- the run in hand
+-- ---- the page in hand
 
 abbrev in_hand_at : ℕ → Option Hand → Option InHand
 in_hand_at next hand = elim hand [ None ↦ None | Some hand ↦ Some (record { page = record { number = next }; last = length hand.pages == 1; body_safe = is_body_safe hand.phase }) ]
@@ -127,11 +127,11 @@ held_some log hand is (inl idle) = no_hand (sym idle ∙ is)
     no_hand e = cc
 held_some log hand is (inr some) = some
 
-pub run_decides : (keep : ℕ) (log : LogState) (old new : List Byte) (page : InHand) (gate : ℕ) → in_hand_of log ≡ Some page → IsHeld log → IsTied keep log old → EachPair IsCut old new → IsCutShort keep log old new
-    → gate ≡ slice_index (values new) (4096 * (page.page.number % log.size)) → (page.last && (page.body_safe && not (gate == 0))) ≡ is_run_whole keep log new
-run_decides keep log old new page gate is held tied each cut gate_is = by log.hand refl
+pub page_decides : (keep : ℕ) (log : LogState) (old new : List Byte) (page : InHand) (gate : ℕ) → in_hand_of log ≡ Some page → IsHeld log → IsTied keep log old → EachPair IsCut old new → IsCutShort keep log old new
+    → gate ≡ slice_index (values new) (4096 * (page.page.number % log.size)) → (page.body_safe && not (gate == 0)) ≡ is_left_whole keep log new
+page_decides keep log old new page gate is held tied each cut gate_is = by log.hand refl
   where
-    by : (hand : Option Hand) → log.hand ≡ hand → (page.last && (page.body_safe && not (gate == 0))) ≡ is_run_whole keep log new
+    by : (hand : Option Hand) → log.hand ≡ hand → (page.body_safe && not (gate == 0)) ≡ is_left_whole keep log new
     by None e = none_some page (sym (ap (in_hand_at log.next) e) ∙ is)
     by (Some hand) e =
         let same : page ≡ record { page = record { number = log.next }; last = length hand.pages == 1; body_safe = is_body_safe hand.phase } =
@@ -141,16 +141,27 @@ run_decides keep log old new page gate is held tied each cut gate_is = by log.ha
         let gates : gate ≡ slice_index (values new) (4096 * (log.next % log.size)) = gate_is ∙ ap (λ (p : InHand). slice_index (values new) (4096 * (p.page.number % log.size))) same in
         let opened = phase_decides hand.phase (log.next / log.size) (4096 * (log.next % log.size)) (with_lap (log.next / log.size) (first_body hand.pages)) (page_at old log.size log.next) new at_next
         (zipped_part IsCut old new (4096 * (log.next % log.size)) 4096 each) in
-        let left = left_is keep log old new (held_some log hand e held) tied cut in
-        (λ i. (same i).last && ((same i).body_safe && not (gates i == 0)))
-        ∙ (λ i. sym (last_is log hand e) i && sym (left ∙ opened) i)
+        (λ i. (same i).body_safe && not (gates i == 0)) ∙ sym (left_is keep log old new (held_some log hand e held) tied cut ∙ opened)
 
-pub no_run : (keep : ℕ) (log : LogState) (new : List Byte) → in_hand_of log ≡ None → false ≡ is_run_whole keep log new
-no_run keep log new is = by log.hand refl
+-- with no run in hand the log is as long as it was
+idle_ends : (keep : ℕ) (log : LogState) (old new : List Byte) → log.hand ≡ None → IsTied keep log old → IsCutShort keep log old new → false ≡ is_left_whole keep log new
+idle_ends keep log old new idle tied cut = sym (test_false (keep + length (log_pages new log.size keep)) (log.next + 1) (omega (arith, long cut.pages, tied.from)))
   where
-    some_none : {A : Type 0} (page : InHand) → Some page ≡ None → A
-    some_none page e = cc
+    long : (log_pages new log.size keep ≡ pages_written keep log old) ⊎ (log_pages new log.size keep ≡ pages_written keep log old ++ hand_body (log.next / log.size) log.hand) → length (log_pages new log.size keep) ≡ log.next - keep
+    long (inl is) = ap length is ∙ written_length keep log old tied
+    long (inr is) =
+        ap length is ∙ length-append (pages_written keep log old) (hand_body (log.next / log.size) log.hand)
+        ∙ (λ i. written_length keep log old tied i + length (hand_body (log.next / log.size) (idle i))) ∙ omega arith
 
-    by : (hand : Option Hand) → log.hand ≡ hand → false ≡ is_run_whole keep log new
-    by None e = sym (ap (λ (h : Option Hand). (elim h [ None ↦ false | Some hand ↦ length hand.pages == 1 ]) && is_left_whole keep log new) e)
+some_none : {A : Type 0} (page : InHand) → Some page ≡ None → A
+some_none page e = cc
+
+idle_is : (log : LogState) → in_hand_of log ≡ None → log.hand ≡ None
+idle_is log is = by log.hand refl
+  where
+    by : (hand : Option Hand) → log.hand ≡ hand → hand ≡ None
+    by None e = refl
     by (Some hand) e = some_none _ (sym (ap (in_hand_at log.next) e) ∙ is)
+
+pub no_page : (keep : ℕ) (log : LogState) (old new : List Byte) → in_hand_of log ≡ None → IsTied keep log old → IsCutShort keep log old new → false ≡ is_left_whole keep log new
+no_page keep log old new is tied cut = idle_ends keep log old new (idle_is log is) tied cut

@@ -2,7 +2,7 @@
 //! records are cut into, is whole in the log.
 //!
 //! - `cutting`: the pages of a unit's run.
-//! - `power`: whether a power cut leaves a run whole.
+//! - `power`: whether a power cut leaves the page in hand whole.
 //! - `laws`: what the steps of the log's writer, and power cuts, make of what the log tells.
 #![tactic(auto)]
 

@@ -1,6 +1,6 @@
 //! A walk over a log.
 
-ghost use Rattle.std.specs.Prelude.{◌≡◌, ◌<◌, ◌≤◌, ◌+◌, ◌^◌, ◌++◌, ◌∷◌, [], ℕ, List, IfOk, OnErr, IsErrOf, None, Some, IsSome};
+ghost use Rattle.std.specs.Prelude.{◌≡◌, ◌<◌, ◌≤◌, ◌+◌, ◌^◌, ◌++◌, ◌∷◌, [], ℕ, List, IfOk, OnErr, IsErrOf, None, Some, IsSome, is_some};
 ghost use Rattle.qsg_num.specs.declared.words.LogWhy.{LogWhy};
 
 use qsg_logread::{FeedError, Reader};
@@ -112,6 +112,13 @@ impl Walk {
             }
             Err(refused) => Err(refused),
         }
+    }
+
+    /// Whether it keeps a page that it hasn't fed yet.
+    pub fn keeps_page(&self) -> bool
+        ensures { result ≡ is_some self.now.kept }
+    {
+        self.kept.is_some()
     }
 
     /// Whether a commit of this unit was fed. It takes the same time however many were.

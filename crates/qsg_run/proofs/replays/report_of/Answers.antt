@@ -6,5 +6,5 @@ returns g c = record {
   kept = c.kept.ensures;
   ended = c.end_of.ensures;
   seen = c.in_ok-shown.ensures;
-  report = rw (← c.agenda.ensures, ← c.history.ensures) c.in_ok-report.ensures;
+  report = rw (← c.history.ensures) c.in_ok-report.ensures;
 }

@@ -1,0 +1,13 @@
+pub mod Entries
+pub mod Structures
+pub mod Counting
+pub mod Requests
+pub mod Passing
+pub mod Raising
+pub mod Incarnations
+pub mod Downing
+pub mod Crashing
+pub mod Spared
+pub mod Starting
+pub mod Peers
+pub mod Overs

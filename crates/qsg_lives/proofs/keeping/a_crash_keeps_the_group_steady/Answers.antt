@@ -1,0 +1,9 @@
+use Rattle.qsg_lives.proofs.Crashing.{crash_steady}
+use Rattle.qsg_lives.proofs.Spared.{crash_spares}
+use Rattle.qsg_lives.proofs.keeping.a_crash_keeps_the_group_steady.Goals as goal
+
+pub returns-clause-steady : goal.returns-clause-steady
+returns-clause-steady c = crash_steady
+
+pub returns-clause-spares : goal.returns-clause-spares
+returns-clause-spares c = crash_spares

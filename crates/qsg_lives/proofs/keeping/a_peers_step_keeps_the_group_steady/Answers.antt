@@ -1,0 +1,8 @@
+use Rattle.qsg_lives.proofs.Peers.{step_steady, step_spares}
+use Rattle.qsg_lives.proofs.keeping.a_peers_step_keeps_the_group_steady.Goals as goal
+
+pub returns-clause-steady : goal.returns-clause-steady
+returns-clause-steady c = step_steady
+
+pub returns-clause-spares : goal.returns-clause-spares
+returns-clause-spares c = step_spares

@@ -1,0 +1,11 @@
+pub mod Ahead
+pub mod Following
+pub mod Leaving
+pub mod Marks
+pub mod Needing
+pub mod Resolving
+pub mod Settling
+pub mod SweepingLists
+pub mod Sweeping
+pub mod PaceLists
+pub mod Pace

@@ -1,0 +1,9 @@
+use Rattle.qsg_parts.specs.Owned.{owned}
+use Rattle.qsg_peer.proofs.Needing.{ready_after, memory_taken}
+use Rattle.qsg_peer.proofs.work.PeerWork.step.Goals as goal
+
+pub returns-clause-ready : goal.returns-clause-ready
+returns-clause-ready g c = λ members. ready_after c.args.skip.now c.args.self.now (owned c.args.parts.now) c.make.result c.make.new.self (owned c.make.new.parts) members c.requires.may c.make.ensures.next
+
+pub returns-clause-memory : goal.returns-clause-memory
+returns-clause-memory g c = memory_taken c.args.skip.now c.args.self.now (owned c.args.parts.now) c.make.result c.make.new.self (owned c.make.new.parts) c.make.ensures.next

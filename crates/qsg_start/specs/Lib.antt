@@ -1,0 +1,5 @@
+pub mod Works
+pub mod Needs
+pub mod Steps
+pub mod Following
+pub mod Pace

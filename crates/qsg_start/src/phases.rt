@@ -1,0 +1,34 @@
+//! How far a START has come, and how a step ends.
+
+use qsg_num::{Incarnation, LogWhy, PageNo};
+
+/// How far a START has come.
+#[derive(Clone, Copy, Debug, PartialEq, Eq)]
+pub enum Phase {
+    /// The member is looked at, whether it is up.
+    Check,
+    /// The page of its log is asked for from which it is read.
+    Low,
+    /// Its log is being read.
+    Read,
+    /// The log was read. The member comes up next, and its log goes on at this page.
+    Begin(PageNo),
+}
+
+/// How a step ended.
+#[derive(Clone, Copy, Debug, PartialEq, Eq)]
+pub enum StartTurn {
+    /// The work goes on.
+    More,
+    /// The member is up already. The work has ended.
+    Up,
+    /// The member is up in this incarnation. The work has ended.
+    Started(Incarnation),
+    /// The log can't be read, so that the member stays down, and no incarnation was used. The work has ended.
+    Fault(LogWhy),
+}
+
+/// There was no memory for a step. The group is as it was, but that reading may have been tried; the page that was kept
+/// may be fed.
+#[derive(Clone, Copy, Debug, PartialEq, Eq)]
+pub struct NoMemory;

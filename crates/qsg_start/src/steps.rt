@@ -1,0 +1,90 @@
+//! What the steps do to the parts of the group.
+
+ghost use Rattle.std.specs.Prelude.{◌≡◌, ◌<◌, ◌≤◌, ◌+◌, None, IfOk, OnErr, IsErrOf};
+ghost use Rattle.qsg_num.specs.Faults.{Rose};
+ghost use Rattle.qsg_repo.specs.Calls.{next_incarnation};
+ghost use Rattle.qsg_logs.specs.Kept.{log_in};
+ghost use Rattle.qsg_logs.specs.Reading.{IsFound};
+ghost use Rattle.qsg_logpage.specs.declared.read.ReadError.{ReadError};
+ghost use Rattle.qsg_parts.specs.Owned.{owned, HasMember};
+ghost use Rattle.qsg_walk.specs.Walks.{after_read};
+ghost use Rattle.qsg_start.specs.Works.{IsReading, IsSound};
+ghost use Rattle.qsg_start.specs.Needs.{MayAskLow, MayBegin};
+ghost use Rattle.qsg_start.specs.Steps.{first_walk, walking, HasRead, started};
+
+use crate::phases::Phase;
+use qsg_disk::Disk;
+use qsg_logpage::ReadError;
+use qsg_num::{Incarnation, Member, Page, PageNo};
+use qsg_parts::Parts;
+use qsg_walk::Walk;
+use std::alloc::Global;
+
+/// A walk over the log of a member, from its low page on. Takes no memory.
+pub fn first_walk<D: Disk>(alloc: Global, parts: &Parts<D>, member: Member) -> Walk
+    requires may { MayAskLow member (owned parts.now) }
+    ensures walk { result ≡ first_walk member (owned parts.now) }
+    ensures few { result.left < 1048576 }
+    ensures numbered { result.next + result.left ≤ 4290000000 }
+{
+    parts.logs.kept(member);
+    let low = parts.repo.low(member);
+    Walk::new(alloc, low, parts.logs.size(member))
+}
+
+/// The walk goes on, or the member comes up next, with its log going on at the next page of the walk.
+pub fn walking(walk: &Walk, next: PageNo) -> Phase
+    requires { next.number ≡ walk.now.next }
+    ensures { result ≡ walking walk.now }
+{
+    match walk.next() {
+        Some(_) => Phase::Read,
+        None => Phase::Begin(next),
+    }
+}
+
+/// Keeps what was read at the next page of a walk. What comes next.
+pub fn keep(walk: &mut Walk, next: PageNo, found: Option<Page>) -> Phase
+    requires reading { IsReading walk.old }
+    requires next { next.number ≡ walk.old.next }
+    ensures kept { walk.new ≡ after_read found walk.old }
+    ensures phase { result ≡ walking walk.new }
+    ensures sound { IsSound result walk.new }
+{
+    let after = match &found {
+        Some(_) => PageNo {
+            number: next.number + 1,
+        },
+        None => next,
+    };
+    walk.keep(found);
+    walking(walk, after)
+}
+
+/// Reads a page of a member's log. None exactly where none stands there.
+pub fn read<D: Disk>(
+    alloc: Global,
+    parts: &mut Parts<D>,
+    member: Member,
+    no: PageNo,
+) -> Result<Option<Page>, ReadError>
+    requires member { HasMember member (owned parts.old) }
+    ensures read { HasRead member (owned parts.old) (owned parts.new) }
+    ensures found { IfOk result (λ found. IsFound no.number (log_in member (owned parts.old).logs) found) }
+    ensures failed { IsErrOf result ReadError.Failed → Rose (log_in member (owned parts.old).logs).faults (log_in member (owned parts.new).logs).faults }
+{
+    parts.logs.read_page(alloc, member, no)
+}
+
+/// Gives a member its next incarnation, in which it is up; its log goes on at a page.
+pub fn start<D: Disk>(parts: &mut Parts<D>, member: Member, page: PageNo) -> Incarnation
+    requires may { MayBegin member (owned parts.old) }
+    requires numbered { page.number ≤ 4290000000 }
+    ensures incarnation { result ≡ next_incarnation member (owned parts.old).repo }
+    ensures started { owned parts.new ≡ started member page (owned parts.old) }
+{
+    let incarnation = parts.repo.started(member);
+    parts.managers.start_member(member, incarnation);
+    parts.logs.restart(member, page);
+    incarnation
+}
