@@ -75,6 +75,78 @@ fn whole_reports(rt: HostRuntime) -> Result<(), Fail> {
     Ok(())
 }
 
+/// Two members, two structures, and queues of each kind.
+const GROUP_OF_TWO: &str =
+    "GROUP QSG1\nMEMBER QM1\nMEMBER QM2\nDEFINE CFSTRUCT(APP1) CFLEVEL(5) OFFLOAD(SMDS) DSGROUP('QSG1.*.APP1')\nDEFINE CFSTRUCT(APP2) CFLEVEL(5) OFFLOAD(SMDS) DSGROUP('QSG1.*.APP2') RECOVER(NO)\nDEFINE QLOCAL(Q1) QSGDISP(SHARED) CFSTRUCT(APP1)\nDEFINE QLOCAL(Q2) QSGDISP(SHARED) CFSTRUCT(APP2) MSGDLVSQ(FIFO) MAXDEPTH(2) MAXMSGL(4)\nDEFINE QLOCAL(Q3) QSGDISP(SHARED) CFSTRUCT(APP1) PUT(DISABLED)\nDEFINE QLOCAL(Q4) QSGDISP(SHARED) CFSTRUCT(APP1) GET(DISABLED)\n";
+
+/// One member with a log of two pages, and a structure of forty elements.
+const GROUP_OF_ONE: &str =
+    "GROUP QSG1\nMEMBER QM1 LOG(2)\nDEFINE CFSTRUCT(APP1) CFLEVEL(5) OFFLOAD(SMDS) DSGROUP('QSG1.*.APP1')\nDEFINE QLOCAL(Q1) QSGDISP(SHARED) CFSTRUCT(APP1)\nFACILITY APP1 ELEMENTS(40)\n";
+
+#[test]
+fn groups_at_work(rt: HostRuntime) -> Result<(), Fail> {
+    for (head, lines, status, text) in [
+        // units over two structures, orders of delivery, and refusals
+        (
+            GROUP_OF_TWO,
+            "TASK QM1 1\nPUT Q1 BODY('low') PRI(1)\nPUT Q1 BODY('high') PRI(9)\nPUT Q2 BODY('old') PRI(1)\nPUT Q2 BODY('new') PRI(9)\nPUT Q2 BODY('c')\nPUT Q2 BODY('large')\nPUT Q2 BODY('p') PERS(1)\nPUT Q3 BODY('x')\nGET Q4\nPUT Q9\nGET Q1\nCOMMIT\nTASK QM2 1\nWAIT QM1 1 12\nGET Q1\nGET Q1\nGET Q2\nGET Q2\nGET Q2\nBACKOUT\nGET Q2\nCOMMIT\nBACKUP CFSTRUCT(APP1)\nEND\n",
+            Status::Finished,
+            "group QSG1\ntask QM1 1\n1 PUT OK 0.1 inside\n2 PUT OK 0.2 inside\n3 PUT OK 0.1 inside\n4 PUT OK 0.2 inside\n5 PUT 2053 depth 2\n6 PUT 2030\n7 PUT 2048\n8 PUT 2051\n9 GET 2016\n10 PUT 2085\n11 GET 2033\n12 COMMIT OK QM1/1/1 4\ntask QM2 1\n1 WAIT OK\n2 GET OK 0.2 pri 9 pers 0 msgid - correlid - body 4 68696768\n3 GET OK 0.1 pri 1 pers 0 msgid - correlid - body 3 6c6f77\n4 GET OK 0.1 pri 1 pers 0 msgid - correlid - body 3 6f6c64\n5 GET OK 0.2 pri 9 pers 0 msgid - correlid - body 3 6e6577\n6 GET 2033\n7 BACKOUT OK QM2/1/1 4\n8 GET OK 0.1 pri 1 pers 0 msgid - correlid - body 3 6f6c64\n9 COMMIT OK QM2/1/2 1\n10 BACKUP NOTYET\nunit QM1/1/1 put 0.1 put 0.2 put 0.1 put 0.2\nunit QM2/1/2 got 0.1\nstructure APP1 active epoch 0 used 4 of 65536\nstructure APP2 active epoch 0 used 2 of 65536\nentry 0.1 Q1 pri 1 pers 0 visible inside 3\nentry 0.2 Q1 pri 9 pers 0 visible inside 4\nentry 0.2 Q2 pri 9 pers 0 visible inside 3\nqueue Q1 depth 2\nqueue Q2 depth 1\nqueue Q3 depth 0\nqueue Q4 depth 0\nlog QM1 pages 1 of 8192\nlog QM2 pages 1 of 8192\nmember QM1 up 1\nmember QM2 up 1\nfinished\n",
+        ),
+        // a structure and a log that are full
+        (
+            GROUP_OF_ONE,
+            "TASK QM1 1\nPUT Q1 SIZE(8081) PERS(1)\nPUT Q1 SIZE(8080) PERS(1)\nCOMMIT\nPUT Q1 BODY('one more')\nPUT Q1 SIZE(1793)\nCOMMIT\nEND\n",
+            Status::Finished,
+            "group QSG1\ntask QM1 1\n1 PUT NOLOG need 3 free 2\n2 PUT OK 0.1 inside\n3 COMMIT OK QM1/1/1 1\n4 PUT NOLOG need 1 free 0\n5 PUT NOLOG need 1 free 0\n6 COMMIT OK - 0\nunit QM1/1/1 put 0.1\nstructure APP1 active epoch 0 used 33 of 40\nentry 0.1 Q1 pri 0 pers 1 visible inside 8080\nqueue Q1 depth 1\nlog QM1 pages 2 of 2\nmember QM1 up 1\nfinished\n",
+        ),
+        // no elements for a body
+        (
+            GROUP_OF_ONE,
+            "TASK QM1 1\nPUT Q1 SIZE(9985)\nPUT Q1 SIZE(9984)\nPUT Q1\nCOMMIT\nEND\n",
+            Status::Finished,
+            "group QSG1\ntask QM1 1\n1 PUT 2192 structure need 41 free 40\n2 PUT OK 0.1 inside\n3 PUT 2192 structure need 1 free 0\n4 COMMIT OK QM1/1/1 1\nunit QM1/1/1 put 0.1\nstructure APP1 active epoch 0 used 40 of 40\nentry 0.1 Q1 pri 0 pers 0 visible inside 9984\nqueue Q1 depth 1\nlog QM1 pages 1 of 2\nmember QM1 up 1\nfinished\n",
+        ),
+        // a task behind the latch of another, and one that waits for ever
+        (
+            GROUP_OF_ONE,
+            "TASK QM1 1\nPUT Q1 BODY('a')\nCOMMIT\nTASK QM1 2\nPUT Q1 BODY('b')\nCOMMIT\nWAIT QM1 1 3\nSCHEDULE\nQM1 1 5\nQM1 2 6\nEND\n",
+            Status::Stuck,
+            "group QSG1\ntask QM1 1\n1 PUT OK 0.1 inside\n2 COMMIT OK QM1/1/1 1\ntask QM1 2\n1 PUT OK 0.2 inside\n2 COMMIT OK QM1/1/2 1\nunit QM1/1/1 put 0.1\nunit QM1/1/2 put 0.2\nstructure APP1 active epoch 0 used 4 of 40\nentry 0.1 Q1 pri 0 pers 0 visible inside 1\nentry 0.2 Q1 pri 0 pers 0 visible inside 1\nqueue Q1 depth 2\nlog QM1 pages 2 of 2\nmember QM1 up 1\nwaits QM1 2 until QM1 1 3\nstuck\n",
+        ),
+    ] {
+        let (ended, sink) = called(rt.alloc(), "replay", script(rt.alloc(), head, lines)?)?;
+        assert_eq!(rt; ended, status, "{lines}");
+        assert_eq!(rt; sink.written(), text.as_bytes(), "{lines}");
+    }
+    Ok(())
+}
+
+/// Whether a text has this line.
+fn has_line(text: &[u8], line: &str) -> bool {
+    text.split(|byte| *byte == b'\n')
+        .any(|found| found == line.as_bytes())
+}
+
+#[test]
+fn a_unit_of_a_thousand(rt: HostRuntime) -> Result<(), Fail> {
+    let mut bytes = script(rt.alloc(), HEAD, "TASK QM1 1\n")?;
+    for _turn in 0..1_001u32 {
+        bytes.extend_from_slice(b"PUT Q1\n")?;
+    }
+    bytes.extend_from_slice(b"COMMIT\nEND\n")?;
+    let (ended, sink) = called(rt.alloc(), "replay", bytes)?;
+    assert_eq!(rt; ended, Status::Finished);
+    for line in [
+        "1000 PUT OK 0.1000 inside",
+        "1001 PUT 2024",
+        "1002 COMMIT OK QM1/1/1 1000",
+    ] {
+        assert!(rt; has_line(sink.written(), line), "{line}");
+    }
+    Ok(())
+}
+
 #[test]
 fn scripts_at_fault(rt: HostRuntime) -> Result<(), Fail> {
     for (bytes, text) in [

@@ -19,7 +19,7 @@ run_out-due-requires-clause-new g c =
     let stepped : c.as_slice-2.result.now ≡ actors_of plan = c.as_slice-2.ensures ∙ c.in_ok-actors.ensures in
     let picks : c.in_ok-chooser.chooser ≡ course_for c.args.seed plan.schedule (actors_of plan) = c.in_ok-chooser.ensures ∙ ap (course_for c.args.seed plan.schedule) chosen in
     subst (λ (actors : List Actor). IsNewCourse actors c.in_ok-chooser.chooser) (sym stepped)
-        (subst (λ (course : Course). IsNewCourse (actors_of plan) course) (sym picks) (new_course c.args.seed plan.schedule (actors_of plan)))
+    (subst (λ (course : Course). IsNewCourse (actors_of plan) course) (sym picks) (new_course c.args.seed plan.schedule (actors_of plan)))
 
 pub returns-clause-due : goal.returns-clause-due
 returns-clause-due g c =
