@@ -1,6 +1,6 @@
 -- marks of an incarnation that is over, in actions of units and of peers
 use Rattle.std.proofs.Common.{◌≡◌, inl, inr, ℕ, ◌+◌, ◌<◌, ◌^◌, Bool, true, false, cond, List, Option, Some, None, Result, Ok, Err, refl, sym, ap, subst, ◌∙◌, true≢false, arith}
-use Rattle.std.specs.Prelude.{◌==◌, IsSome}
+use Rattle.std.specs.Prelude.{◌==◌, ◌||◌, is_some}
 use Rattle.std.proofs.lemmas.Bool.{cases_Bool}
 use Rattle.qsg_num.specs.declared.ids.Incarnation.{Incarnation}
 use Rattle.qsg_num.specs.declared.ids.UnitName.{UnitName}
@@ -35,7 +35,7 @@ use Rattle.qsg_peer.specs.declared.phases.Phase.TheVariants.{Find, Low, At}
 use Rattle.qsg_peer.specs.declared.phases.Stage.{Stage}
 use Rattle.qsg_peer.specs.declared.phases.Stage.TheVariants.{Read, Connect, Search, Settle, Resolve}
 use Rattle.qsg_peer.specs.Works.{Work, IsSoundAt, IsSound}
-use Rattle.qsg_peer.specs.Needs.{HasStructure, MayStepOn, MayStepAt}
+use Rattle.qsg_peer.specs.Needs.{HasStructure, MayStepOn, MayStepAt, is_read_stage}
 use Rattle.qsg_peer.specs.Steps.{Next, found_phase, after_find, after_low, after_connect, after_search, after_settle, after_resolve, Reads, Makes, Acts, GoesOn, NextAt, NextPeer, mark_answer, with_mark_off, counted}
 use Rattle.qsg_peer.specs.Machine.{is_of, IsOver}
 use Rattle.qsg_peer.specs.Sweeping.{AreOrdered}
@@ -59,8 +59,9 @@ same_life life u is =
     let parts = and_parts (member_number u.member == member_number life.member) (u.incarnation.number == life.incarnation.number) is in
     (same_member u.member life.member (eqb-true (member_number u.member) (member_number life.member) parts.0), eqb-true u.incarnation.number life.incarnation.number parts.1)
 
-pub other_life : (a b : ℕ) (p : Owned) (m : Member) (t : TaskNo) (u : UnitName) (life : FailedLife) → IsSteady a b p → (task_at m t p.managers).unit ≡ Some u → IsOver life p → is_of life u ≡ false
-other_life a b p m t u life s holds ended = elim (cases_Bool (is_of life u)) [
+-- a unit is of no incarnation that is over while its member is up in its incarnation
+pub live_other : (p : Owned) (u : UnitName) (life : FailedLife) → IsLive (manager_in u.member p.managers) u → IsOver life p → is_of life u ≡ false
+live_other p u life live ended = elim (cases_Bool (is_of life u)) [
   | inl is ↦ absurd (alive is)
   | inr is ↦ is
 ]
@@ -68,10 +69,15 @@ other_life a b p m t u life s holds ended = elim (cases_Bool (is_of life u)) [
     alive : is_of life u ≡ true → ⊥
     alive is =
         let same = same_life life u is in
-        let member : life.member ≡ m = sym same.0 ∙ s.own m t u holds in
-        let past = subst (λ (k : Member). HasEnded life.incarnation.number (seat_of (manager_in k p.managers))) member ended in
-        let live : IsLive (manager_in m p.managers) u = s.live m t u holds in
+        let past = subst (λ (k : Member). HasEnded life.incarnation.number (seat_of (manager_in k p.managers))) (sym same.0) ended in
         true≢false (sym live.up ∙ past.down (sym same.1 ∙ ap (λ (i : Incarnation). i.number) live.incarnation))
+
+-- a unit that a task holds is so
+pub held_live : (a b : ℕ) (p : Owned) (m : Member) (t : TaskNo) (u : UnitName) → IsSteady a b p → (task_at m t p.managers).unit ≡ Some u → IsLive (manager_in u.member p.managers) u
+held_live a b p m t u s holds = subst (λ (k : Member). IsLive (manager_in k p.managers) u) (sym (s.own m t u holds)) (s.live m t u holds)
+
+pub other_life : (a b : ℕ) (p : Owned) (m : Member) (t : TaskNo) (u : UnitName) (life : FailedLife) → IsSteady a b p → (task_at m t p.managers).unit ≡ Some u → IsOver life p → is_of life u ≡ false
+other_life a b p m t u life s holds ended = live_other p u life (held_live a b p m t u s holds) ended
 
 pub put_marks : (life : FailedLife) (p : Owned) (t : TaskNo) (u : UnitName) (c : Connection) (head : Head) (place : Place) (message : Message) (logged : Option ℕ) → is_of life u ≡ false → HasStructure c.structure p → LeavesMarks life p (put u t c head place message logged p)
 put_marks life p t u c head place message logged other within = put_leaves life c.structure u head place p (put u t c head place message logged p) other within refl
@@ -109,19 +115,19 @@ record TakesOff (life : FailedLife) (n : ℕ) (p q : Owned) : Type 0 where
 none_off : (life : FailedLife) (p q : Owned) → q.structures ≡ p.structures → TakesOff life 0 p q
 none_off life p q is = let left = none_changed life p q is in record { marks = omega (arith, left.marks); swept = λ ordered. left.swept }
 
-made : (next : Next) (result : Result PeerTurn NoMemory) (v : Work) (q : Owned) → Makes next result v q → q ≡ next.parts
+pub made : (next : Next) (result : Result PeerTurn NoMemory) (v : Work) (q : Owned) → Makes next result v q → q ≡ next.parts
 made next (Ok turn) v q is = ap (λ (n : Next). n.parts) is
 made next (Err e) v q is = absurd is
 
 same_off_by : (life : FailedLife) (next : Next) (p : Owned) (result : Result PeerTurn NoMemory) (v : Work) (q : Owned) → next.parts.structures ≡ p.structures → Makes next result v q → TakesOff life 0 p q
 same_off_by life next p result v q same is = none_off life p q (ap (λ (x : Owned). x.structures) (made next result v q is) ∙ same)
 
-reads_off : (life of : FailedLife) (w : Work) (p : Owned) (result : Result PeerTurn NoMemory) (v : Work) (q : Owned) → Reads of w p result v q → TakesOff life 0 p q
-reads_off life of w p (Ok turn) v q reads = none_off life p q (ap (λ (x : Owned). x.structures) reads.0.others)
-reads_off life of w p (Err e) v q reads = none_off life p q (ap (λ (x : Owned). x.structures) reads.0.others)
+reads_off : (life of : FailedLife) (w : Work) (p : Owned) (turn : PeerTurn) (v : Work) (q : Owned) → Reads of w p turn v q → TakesOff life 0 p q
+reads_off life of w p turn v q reads = none_off life p q (ap (λ (x : Owned). x.structures) reads.0.others)
 
 acts_off : (life of : FailedLife) (stage : Stage) (w : Work) (p : Owned) (result : Result PeerTurn NoMemory) (v : Work) (q : Owned) → MayStepOn of stage p → Acts of stage w p result v q → TakesOff life (came_off_on life stage p) p q
-acts_off life of Read w p result v q may acts = reads_off life of w p result v q acts
+acts_off life of Read w p (Ok turn) v q may acts = reads_off life of w p turn v q acts
+acts_off life of Read w p (Err e) v q may acts = absurd acts
 acts_off life of (Connect s) w p result v q may acts = same_off_by life (after_connect of s w p) p result v q refl acts
 acts_off life of (Search c after) w p result v q may acts = same_off_by life (after_search of c after w p) p result v q refl acts
 acts_off life of (Settle c found) w p result v q may acts =
@@ -138,18 +144,22 @@ settle_only life of (Search c after) w p sound kept = refl
 settle_only life of (Settle c found) w p sound kept = absurd (kept sound.1)
 settle_only life of Resolve w p sound kept = refl
 
-stays_off : (life of : FailedLife) (stage : Stage) (w : Work) (p q : Owned) → IsSoundAt of stage w.walk → (w.walk.kept ≡ None → ⊥) → q ≡ p → TakesOff life (came_off_on life stage p) p q
-stays_off life of stage w p q sound kept is = subst (λ (n : ℕ). TakesOff life n p q) (sym (settle_only life of stage w p sound kept)) (none_off life p q (ap (λ (x : Owned). x.structures) is))
+lacks_only : (life of : FailedLife) (stage : Stage) (w : Work) (p : Owned) → IsSoundAt of stage w.walk → (is_read_stage stage || is_some w.walk.kept) ≡ true → came_off_on life stage p ≡ 0
+lacks_only life of Read w p sound takes = refl
+lacks_only life of (Connect s) w p sound takes = refl
+lacks_only life of (Search c after) w p sound takes = refl
+lacks_only life of (Settle c found) w p sound takes = absurd (true≢false (sym takes ∙ ap is_some sound.1))
+lacks_only life of Resolve w p sound takes = refl
+
+stays_off : (life : FailedLife) (stage : Stage) (p q : Owned) → came_off_on life stage p ≡ 0 → q ≡ p → TakesOff life (came_off_on life stage p) p q
+stays_off life stage p q none is = subst (λ (n : ℕ). TakesOff life n p q) (sym none) (none_off life p q (ap (λ (x : Owned). x.structures) is))
 
 bad_kept : (w : Work) (why : LogWhy) → IsBad w.walk why → w.walk.kept ≡ None → ⊥
 bad_kept w why bad none = subst (λ k. IsBadKept k w.walk why) none bad
 
-some_kept : {A : Type 0} (o : Option A) → IsSome o → o ≡ None → ⊥
-some_kept {A} o some none = true≢false (sym (subst (IsSome {T = A}) none some))
-
 goes_off : (life of : FailedLife) (stage : Stage) (w : Work) (p : Owned) (result : Result PeerTurn NoMemory) (v : Work) (q : Owned) → IsSoundAt of stage w.walk → MayStepOn of stage p → GoesOn of stage w p result v q → TakesOff life (came_off_on life stage p) p q
-goes_off life of stage w p result v q sound may (inl given) = stays_off life of stage w p q sound (bad_kept w given.why given.bad) given.parts_are
-goes_off life of stage w p result v q sound may (inr (inl lacks)) = stays_off life of stage w p q sound (some_kept w.walk.kept lacks.kept) lacks.parts_are
+goes_off life of stage w p result v q sound may (inl given) = stays_off life stage p q (settle_only life of stage w p sound (bad_kept w given.why given.bad)) given.parts_are
+goes_off life of stage w p result v q sound may (inr (inl lacks)) = stays_off life stage p q (lacks_only life of stage w p sound lacks.takes) lacks.parts_are
 goes_off life of stage w p result v q sound may (inr (inr acted)) = acts_off life of stage (record w { walk = acted.walk }) p result v q may acted.acts
 
 found_same : (name : Option (Member × Incarnation)) (w : Work) (p : Owned) → (after_find (found_phase name) w p).parts ≡ p

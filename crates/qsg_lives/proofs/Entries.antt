@@ -1,5 +1,5 @@
 -- the marks of an incarnation in a list of entries that changes
-use Rattle.std.proofs.Common.{◌≡◌, inl, inr, ℕ, ◌+◌, Bool, true, false, cond, List, [], ◌∷◌, ◌++◌, Option, Some, None, refl, sym, ap, subst, ◌∙◌, true≢false, arith}
+use Rattle.std.proofs.Common.{◌≡◌, inl, inr, ℕ, ◌+◌, ◌≤◌, Bool, true, false, cond, List, [], ◌∷◌, ◌++◌, Option, Some, None, refl, sym, ap, subst, ◌∙◌, true≢false, arith}
 use Rattle.std.specs.Prelude.{◌==◌, option_map}
 use Rattle.std.specs.List.{AllByRecursion, cons_option}
 use Rattle.std.specs.Option.{option_and_then}
@@ -43,6 +43,11 @@ marks_left_by life (Some e) = one_if (names life e)
 marks-cons : (life : FailedLife) (e : Entry) (es : List Entry) → marks life (e ∷ es) ≡ one_if (names life e) + marks life es
 marks-cons life e es = sum_by-cons (λ (x : Entry). cond (names life x) 1 0) e es
 
+-- none are left where no entry has one
+pub marks_none : (life : FailedLife) (es : List Entry) → AllByRecursion (λ (e : Entry). names life e ≡ false) es → marks life es ≡ 0
+marks_none life [] all = refl
+marks_none life (e ∷ es) all = omega (arith, marks-cons life e es, ap one_if all.0, marks_none life es all.1)
+
 pub marks-push : (life : FailedLife) (es : List Entry) (e : Entry) → marks life (es ++ e ∷ []) ≡ marks life es + one_if (names life e)
 marks-push life es e = sum_by_push (λ (x : Entry). cond (names life x) 1 0) es e
 
@@ -61,6 +66,15 @@ marks-revise life id f (x ∷ es) e there = by (has_id id x) there (marks-revise
         (omega (arith, marks-cons_option life (f x) es, marks-cons life x es))
     by false is rest = omega (arith, rest is, marks-cons life x es, marks-cons life x (revise id f es))
 
+-- whichever entry is revised, no more marks come than one that it leaves may have
+pub marks-revise_few : (life : FailedLife) (id : EntryId) (f : Entry → Option Entry) (n : ℕ) (es : List Entry) → ((e : Entry) → marks_left_by life (f e) ≤ n) → marks life (revise id f es) ≤ marks life es + n
+marks-revise_few life id f n [] few = omega arith
+marks-revise_few life id f n (x ∷ es) few = by (has_id id x) (marks-revise_few life id f n es few)
+  where
+    by : (b : Bool) → marks life (revise id f es) ≤ marks life es + n → marks life (cond b (cons_option (f x) es) (x ∷ revise id f es)) ≤ marks life (x ∷ es) + n
+    by true rest = omega (arith, marks-cons_option life (f x) es, marks-cons life x es, few x)
+    by false rest = omega (arith, rest, marks-cons life x es, marks-cons life x (revise id f es))
+
 -- ---- marks that are off
 
 -- what is left of an entry has no mark of the incarnation
@@ -70,6 +84,15 @@ LeavesNone life f = (e x : Entry) → f e ≡ Some x → names life x ≡ false
 all-left : (P : Entry → Type 0) (left : Option Entry) (es : List Entry) → ((x : Entry) → left ≡ Some x → P x) → AllByRecursion P es → AllByRecursion P (cons_option left es)
 all-left P None es one all = all
 all-left P (Some x) es one all = (one x refl, all)
+
+-- what holds of all entries, and of what is left of each, holds of all after one is revised
+pub all-kept : (P : Entry → Type 0) (id : EntryId) (f : Entry → Option Entry) (es : List Entry) → ((e x : Entry) → f e ≡ Some x → P e → P x) → AllByRecursion P es → AllByRecursion P (revise id f es)
+all-kept P id f [] keeps all = tt
+all-kept P id f (x ∷ es) keeps all = by (has_id id x) (all-kept P id f es keeps all.1)
+  where
+    by : (b : Bool) → AllByRecursion P (revise id f es) → AllByRecursion P (cond b (cons_option (f x) es) (x ∷ revise id f es))
+    by true rest = all-left P (f x) es (λ y is. keeps x y is all.0) all.1
+    by false rest = (all.0, rest)
 
 -- what holds of all entries, and of each without a mark of the incarnation, holds of all after one is revised
 pub all-revised : (life : FailedLife) (P : Entry → Type 0) (id : EntryId) (f : Entry → Option Entry) (es : List Entry) → ((e : Entry) → names life e ≡ false → P e) → LeavesNone life f → AllByRecursion P es → AllByRecursion P (revise id f es)

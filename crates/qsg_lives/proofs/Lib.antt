@@ -1,6 +1,8 @@
 pub mod Entries
 pub mod Structures
 pub mod Counting
+pub mod Touching
+pub mod Taking
 pub mod Requests
 pub mod Passing
 pub mod Raising
@@ -11,3 +13,5 @@ pub mod Spared
 pub mod Starting
 pub mod Peers
 pub mod Overs
+pub mod Giving
+pub mod Clearing

@@ -75,7 +75,7 @@ use Rattle.qsg_lives.proofs.Requests.{steady_of}
 use Rattle.qsg_lives.proofs.Starting.{upped, start_ended, checked_same, made}
 
 -- which members are up, in which incarnations, is as it was
-abbrev SeatsStay : List Manager → List Manager → Type 0
+abbrev pub SeatsStay : List Manager → List Manager → Type 0
 SeatsStay ms now = (k : Member) → ((manager_in k now).up ≡ (manager_in k ms).up) × ((manager_in k now).incarnation ≡ (manager_in k ms).incarnation)
 
 over_stays : (life : FailedLife) (p q : Owned) → SeatsStay p.managers q.managers → IsOver life p → IsOver life q
@@ -238,18 +238,21 @@ get_step old new p q (Ok turn) fits within next = seated p q _ (ap (λ (n : gets
 get_step old new p q (Err NoMemory) fits within next = seated p q p.managers (ap (λ (x : Owned). x.managers) next.1) (none_seated p.managers)
 get_step old new p q (Err LogFailed) fits within next = absurd next
 
+-- a step of a request leaves which members are up, and in which incarnations
+pub request_seats : (a b : ℕ) (before work : Work) (p q : Owned) (result : Result Turn StepError) → IsSteadyBeside a b before p → IsRequestOf before p → NextWork before p result work q → SeatsStay p.managers q.managers
+request_seats a b (Put old) (Put new) p q result s fits next = put_step old new p q result fits.member.manager next
+request_seats a b (Put old) (Get new) p q result s fits next = absurd next
+request_seats a b (Put old) (Commit new) p q result s fits next = absurd next
+request_seats a b (Get old) (Put new) p q result s fits next = absurd next
+request_seats a b (Get old) (Get new) p q result s fits next = get_step old new p q result fits.stands fits.member.manager next
+request_seats a b (Get old) (Commit new) p q result s fits next = absurd next
+request_seats a b (Commit old) (Put new) p q result s fits next = absurd next
+request_seats a b (Commit old) (Get new) p q result s fits next = absurd next
+request_seats a b (Commit old) (Commit new) p q result s fits next =
+    let is = steady_of (has_end_begun old.phase) a b p s in end_at a is.busy old.member old.task old.phase p result new.phase q is.steady fits.member.manager fits.own next.next
+
 pub request_over : (a b : ℕ) (life : FailedLife) (before work : Work) (p q : Owned) (result : Result Turn StepError) → IsSteadyBeside a b before p → IsRequestOf before p → NextWork before p result work q → IsOver life p → IsOver life q
-request_over a b life (Put old) (Put new) p q result s fits next over = over_stays life p q (put_step old new p q result fits.member.manager next) over
-request_over a b life (Put old) (Get new) p q result s fits next over = absurd next
-request_over a b life (Put old) (Commit new) p q result s fits next over = absurd next
-request_over a b life (Get old) (Put new) p q result s fits next over = absurd next
-request_over a b life (Get old) (Get new) p q result s fits next over = over_stays life p q (get_step old new p q result fits.stands fits.member.manager next) over
-request_over a b life (Get old) (Commit new) p q result s fits next over = absurd next
-request_over a b life (Commit old) (Put new) p q result s fits next over = absurd next
-request_over a b life (Commit old) (Get new) p q result s fits next over = absurd next
-request_over a b life (Commit old) (Commit new) p q result s fits next over =
-    let is = steady_of (has_end_begun old.phase) a b p s in
-    over_stays life p q (end_at a is.busy old.member old.task old.phase p result new.phase q is.steady fits.member.manager fits.own next.next) over
+request_over a b life before work p q result s fits next over = over_stays life p q (request_seats a b before work p q result s fits next) over
 
 -- ---- a peer's work
 
@@ -289,14 +292,14 @@ started_over a b life m page p s has over =
 over_same : (life : FailedLife) (p q : Owned) → q.managers ≡ p.managers → IsOver life p → IsOver life q
 over_same life p q is over = over_stays life p q (seated p q p.managers is (none_seated p.managers)) over
 
-reads_over : (life : FailedLife) (w : StartWork) (p : Owned) (result : Result StartTurn StartLacks) (v : StartWork) (q : Owned) → starts.Reads w p result v q → IsOver life p → IsOver life q
-reads_over life w p (Ok turn) v q reads over = over_same life p q (ap (λ (x : Owned). x.managers) reads.0.others) over
-reads_over life w p (Err e) v q reads over = over_same life p q (ap (λ (x : Owned). x.managers) reads.0.others) over
+reads_over : (life : FailedLife) (w : StartWork) (p : Owned) (turn : StartTurn) (v : StartWork) (q : Owned) → starts.Reads w p turn v q → IsOver life p → IsOver life q
+reads_over life w p turn v q reads over = over_same life p q (ap (λ (x : Owned). x.managers) reads.0.others) over
 
 acts_over : (a b : ℕ) (life : FailedLife) (phase : StartPhase) (w : StartWork) (p : Owned) (result : Result StartTurn StartLacks) (v : StartWork) (q : Owned) → IsSteady a b p → HasMember w.member p → starts.Acts phase w p result v q → IsOver life p → IsOver life q
 acts_over a b life starting.Check w p result v q s has acts over = over_same life p q (ap (λ (x : Owned). x.managers) (made (starts.after_check w p) result v q acts ∙ checked_same (manager_in w.member p.managers).up w p)) over
 acts_over a b life starting.Low w p result v q s has acts over = over_same life p q (ap (λ (x : Owned). x.managers) (made (starts.after_low w p) result v q acts)) over
-acts_over a b life starting.Read w p result v q s has acts over = reads_over life w p result v q acts over
+acts_over a b life starting.Read w p (Ok turn) v q s has acts over = reads_over life w p turn v q acts over
+acts_over a b life starting.Read w p (Err e) v q s has acts over = absurd acts
 acts_over a b life (starting.Begin page) w p result v q s has acts over = subst (IsOver life) (sym (made (starts.after_begin page w p) result v q acts)) (started_over a b life w.member page p s has over)
 
 goes_over : (a b : ℕ) (life : FailedLife) (w : StartWork) (p : Owned) (result : Result StartTurn StartLacks) (v : StartWork) (q : Owned) → IsSteady a b p → HasMember w.member p → starts.GoesOn w p result v q → IsOver life p → IsOver life q

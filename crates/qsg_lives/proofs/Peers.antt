@@ -139,13 +139,13 @@ has_member a b m p s there = record { manager = subst (λ (n : ℕ). member_numb
 read_keeps : (a b : ℕ) (life : FailedLife) (p q : Owned) → IsSteady a b p → member_number life.member ≤ length p.logs → HasRead life p q → IsSteady a b q
 read_keeps a b life p q s there has = subst (IsSteady a b) (sym has.others) (read_steady a b life.member (log_in life.member q.logs) p s (has_member a b life.member p s there) has.log)
 
-reads_keep : (a b : ℕ) (life : FailedLife) (w : Work) (p : Owned) (result : Result PeerTurn NoMemory) (v : Work) (q : Owned) → IsSteady a b p → member_number life.member ≤ length p.logs → Reads life w p result v q → IsSteady a b q
-reads_keep a b life w p (Ok turn) v q s there reads = read_keeps a b life p q s there reads.0
-reads_keep a b life w p (Err e) v q s there reads = read_keeps a b life p q s there reads.0
+reads_keep : (a b : ℕ) (life : FailedLife) (w : Work) (p : Owned) (turn : PeerTurn) (v : Work) (q : Owned) → IsSteady a b p → member_number life.member ≤ length p.logs → Reads life w p turn v q → IsSteady a b q
+reads_keep a b life w p turn v q s there reads = read_keeps a b life p q s there reads.0
 
 acts_keep : (a b : ℕ) (life : FailedLife) (stage : Stage) (w : Work) (p : Owned) (result : Result PeerTurn NoMemory) (v : Work) (q : Owned) → IsSteady a b p → IsSoundAt life stage w.walk → MayStepOn life stage p → HasSwept life stage p
     → MayDecideOn life stage w.walk.reader p → Acts life stage w p result v q → IsSteady a b q
-acts_keep a b life Read w p result v q s sound may swept decides acts = reads_keep a b life w p result v q s may acts
+acts_keep a b life Read w p (Ok turn) v q s sound may swept decides acts = reads_keep a b life w p turn v q s may acts
+acts_keep a b life Read w p (Err e) v q s sound may swept decides acts = absurd acts
 acts_keep a b life (Connect x) w p result v q s sound may swept decides acts = subst (IsSteady a b) (sym (made (after_connect life x w p) result v q acts)) s
 acts_keep a b life (Search c after) w p result v q s sound may swept decides acts = subst (IsSteady a b) (sym (made (after_search life c after w p) result v q acts)) s
 acts_keep a b life (Settle c found) w p result v q s sound may swept decides acts =
@@ -189,12 +189,12 @@ step_steady a b skip w p result v q s sound may swept decides next = at_keep a b
 read_stands : (life : FailedLife) (p q : Owned) → member_number life.member ≤ length p.logs → HasRead life p q → SparesAll p q
 read_stands life p q there has = subst (SparesAll p) (sym has.others) (read_spares life.member (log_in life.member q.logs) p there has.log)
 
-reads_stand : (life : FailedLife) (w : Work) (p : Owned) (result : Result PeerTurn NoMemory) (v : Work) (q : Owned) → member_number life.member ≤ length p.logs → Reads life w p result v q → SparesAll p q
-reads_stand life w p (Ok turn) v q there reads = read_stands life p q there reads.0
-reads_stand life w p (Err e) v q there reads = read_stands life p q there reads.0
+reads_stand : (life : FailedLife) (w : Work) (p : Owned) (turn : PeerTurn) (v : Work) (q : Owned) → member_number life.member ≤ length p.logs → Reads life w p turn v q → SparesAll p q
+reads_stand life w p turn v q there reads = read_stands life p q there reads.0
 
 acts_stand : (life : FailedLife) (stage : Stage) (w : Work) (p : Owned) (result : Result PeerTurn NoMemory) (v : Work) (q : Owned) → MayStepOn life stage p → Acts life stage w p result v q → SparesAll p q
-acts_stand life Read w p result v q may acts = reads_stand life w p result v q may acts
+acts_stand life Read w p (Ok turn) v q may acts = reads_stand life w p turn v q may acts
+acts_stand life Read w p (Err e) v q may acts = absurd acts
 acts_stand life (Connect x) w p result v q may acts = spares_same p q (made (after_connect life x w p) result v q acts)
 acts_stand life (Search c after) w p result v q may acts = spares_same p q (made (after_search life c after w p) result v q acts)
 acts_stand life (Settle c found) w p result v q may acts = subst (SparesAll p) (sym (made (after_settle life c found w p) result v q acts)) (off_spares c found (is_committed found.unit w.walk.reader.commits) p)

@@ -264,14 +264,14 @@ checked_same false w p = refl
 has_read : (a b : ℕ) (m : Member) (p q : Owned) → IsSteady a b p → HasMember m p → HasRead m p q → Keeps a b p q
 has_read a b m p q s has read = subst (Keeps a b p) (sym read.others) (record { steady = read_steady a b m (log_in m q.logs) p s has read.log; spares = read_spares m (log_in m q.logs) p has.log read.log })
 
-reads_keep : (a b : ℕ) (w : Work) (p : Owned) (result : Result StartTurn NoMemory) (v : Work) (q : Owned) → IsSteady a b p → HasMember w.member p → Reads w p result v q → Keeps a b p q
-reads_keep a b w p (Ok turn) v q s has reads = has_read a b w.member p q s has reads.0
-reads_keep a b w p (Err e) v q s has reads = has_read a b w.member p q s has reads.0
+reads_keep : (a b : ℕ) (w : Work) (p : Owned) (turn : StartTurn) (v : Work) (q : Owned) → IsSteady a b p → HasMember w.member p → Reads w p turn v q → Keeps a b p q
+reads_keep a b w p turn v q s has reads = has_read a b w.member p q s has reads.0
 
 acts_keep : (a b : ℕ) (phase : Phase) (w : Work) (p : Owned) (result : Result StartTurn NoMemory) (v : Work) (q : Owned) → IsSteady a b p → HasMember w.member p → MayStartAt phase w.member p → Acts phase w p result v q → Keeps a b p q
 acts_keep a b Check w p result v q s has may acts = keeps_same a b p q s (made (after_check w p) result v q acts ∙ checked_same (manager_in w.member p.managers).up w p)
 acts_keep a b Low w p result v q s has may acts = keeps_same a b p q s (made (after_low w p) result v q acts)
-acts_keep a b Read w p result v q s has may acts = reads_keep a b w p result v q s has acts
+acts_keep a b Read w p (Ok turn) v q s has may acts = reads_keep a b w p turn v q s has acts
+acts_keep a b Read w p (Err e) v q s has may acts = absurd acts
 acts_keep a b (Begin page) w p result v q s has may acts =
     subst (Keeps a b p) (sym (made (after_begin page w p) result v q acts)) (record { steady = start_steady a b w.member page p s has may; spares = start_spares a b w.member page p s has may.down })
 

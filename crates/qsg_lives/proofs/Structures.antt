@@ -28,6 +28,8 @@ use Rattle.qsg_lists.specs.Writing.{new_entry, written}
 use Rattle.qsg_lists.proofs.First.{first-waits}
 use Rattle.qsg_lists.proofs.Found.{find-entry_at}
 use Rattle.qsg_lists.proofs.Revising.{keeps-settled, keeps-marked}
+use Rattle.qsg_peer.specs.Pace.{marks_above, marks_above_in, HasNoMoreMarks}
+use Rattle.qsg_peer.proofs.PaceLists.{above_added, above_revised}
 use Rattle.qsg_group.proofs.Tables.{cases_structure}
 use Rattle.qsg_manager.specs.declared.structures.MarkedEntry.{MarkedEntry}
 use Rattle.qsg_manager.specs.Facilities.{no_structure, structure_in, with_structure}
@@ -90,6 +92,22 @@ stages_stay life p q off = stays
 
 -- ---- one structure changes
 
+-- what holds of each structure, and of what one becomes, holds of all
+pub one_all : (P : ListStructure → Type 0) (s : StructNo) (y : ListStructure) (before after : List ListStructure) → structure_number s ≤ length before → after ≡ with_structure s y before → P y
+    → ((x : StructNo) → P (structure_in x before)) → (x : StructNo) → P (structure_in x after)
+one_all P s y before after within is new old x = subst (λ ls. P (structure_in x ls)) (sym is) (elim (cases_structure x s) [
+  | inl same ↦ subst (λ z. P (structure_in z (with_structure s y before))) (sym same) (subst P (sym (structure_same s y before within)) new)
+  | inr differ ↦ subst P (sym (structure_other s x y before differ)) (old x)
+])
+
+pub one_no_more : (life : FailedLife) (s : StructNo) (y : ListStructure) (p q : Owned) → structure_number s ≤ length p.structures → q.structures ≡ with_structure s y p.structures → ((id : EntryId) → marks_above life id y.entries ≤ marks_above_in life id s p)
+    → HasNoMoreMarks life p q
+one_no_more life s y p q within is fewer = λ id x. subst (λ ls. marks_above life id (structure_in x ls).entries ≤ marks_above_in life id x p) (sym is) (elim (cases_structure x s) [
+  | inl same ↦ subst (λ z. marks_above life id (structure_in z (with_structure s y p.structures)).entries ≤ marks_above_in life id z p) (sym same)
+      (subst (λ (l : ListStructure). marks_above life id l.entries ≤ marks_above_in life id s p) (sym (structure_same s y p.structures within)) (fewer id))
+  | inr differ ↦ subst (λ (l : ListStructure). marks_above life id l.entries ≤ marks_above_in life id x p) (sym (structure_other s x y p.structures differ)) (omega arith)
+])
+
 pub one_changed : (life : FailedLife) (s : StructNo) (y : ListStructure) (p q : Owned) → structure_number s ≤ length p.structures → q.structures ≡ with_structure s y p.structures → StaysOff life (structure_in s p.structures) y → StaysSwept life p q
 one_changed life s y p q within is off = stages_stay life p q (λ x. subst (λ ls. StaysOff life (structure_in x p.structures) (structure_in x ls)) (sym is) (by x))
   where
@@ -107,13 +125,18 @@ one_counted life s y p q within is =
     ∙ sum_by-set (λ (l : ListStructure). marks life l.entries) p.structures (structure_number s - 1) y no_structure (omega (arith, within, one))
 
 pub one_leaves : (life : FailedLife) (s : StructNo) (y : ListStructure) (p q : Owned) → structure_number s ≤ length p.structures → q.structures ≡ with_structure s y p.structures → StaysOff life (structure_in s p.structures) y
-    → marks life y.entries ≡ marks life (structure_in s p.structures).entries → LeavesMarks life p q
-one_leaves life s y p q within is off same = record { marks = omega (arith, one_counted life s y p q within is, same); swept = one_changed life s y p q within is off }
+    → marks life y.entries ≡ marks life (structure_in s p.structures).entries → ((id : EntryId) → marks_above life id y.entries ≤ marks_above_in life id s p) → LeavesMarks life p q
+one_leaves life s y p q within is off same fewer = record {
+  marks = omega (arith, one_counted life s y p q within is, same);
+  swept = one_changed life s y p q within is off;
+  above = one_no_more life s y p q within is fewer;
+}
 
 pub none_changed : (life : FailedLife) (p q : Owned) → q.structures ≡ p.structures → LeavesMarks life p q
 none_changed life p q is = record {
   marks = ap (marks_of life.member life.incarnation) is;
   swept = stages_stay life p q (λ x. subst (λ ls. StaysOff life (structure_in x p.structures) (structure_in x ls)) (sym is) (same_off life (structure_in x p.structures)));
+  above = λ id x. subst (λ ls. marks_above life id (structure_in x ls).entries ≤ marks_above_in life id x p) (sym is) (omega arith);
 }
 
 -- ---- a unit of another incarnation puts and gets
@@ -126,6 +149,7 @@ put_leaves life s u head place p q other within is =
     one_leaves life s (written old u head place) p q within is
     (record { state = refl; epoch = refl; all = λ P free all. all-pushed P old.entries new (free new other) all; at = λ id e at named. at-pushed life id old.entries new e other at named })
     (omega (arith, marks-push life old.entries new, ap one_if other))
+    (λ id. omega (arith, above_added life id old.entries new other))
 
 pub got_leaves : (life : FailedLife) (u : UnitName) (c : Connection) (queue : List ℕ) (order : Delivery) (select : Selector) (e : Entry) (p q : Owned) → is_of life u ≡ false → AreOrdered p → structure_number c.structure ≤ length p.structures
     → found_in c queue order select p.structures ≡ Some e → q.structures ≡ with_taken u c (Some e) p.structures → LeavesMarks life p q
@@ -144,6 +168,7 @@ got_leaves life u c queue order select e p q other ordered within found is =
       at = λ id x at named. at-revised life e.id id f old.entries x (keeps-marked (GotBy u)).same_id none in_order at named;
     })
     (omega (arith, marks-revise life e.id f old.entries e there, ap one_if seen, nothing_left life f e none))
+    (λ id. above_revised life id e.id f old.entries none)
 
 -- ---- a settle of a unit
 
@@ -197,6 +222,15 @@ settle_counts life commits c found s = by (lost_of s c)
     by None = by_entry (entry_at found.id s.entries) refl
     by (Some lost) = none (marks life s.entries)
 
+-- above no id are more marks then
+pub settle_no_more : (life : FailedLife) (commits : Bool) (c : Connection) (found : MarkedEntry) (s : ListStructure) (id : EntryId) → marks_above life id (off_in commits c found s).entries ≤ marks_above life id s.entries
+settle_no_more life commits c found s id = by (settle_answer s c found.id found.unit)
+  where
+    by : (r : Result Settled Lost) → marks_above life id (revised_if_done r found.id (settled_entry commits) s).entries ≤ marks_above life id s.entries
+    by (Ok Done) = above_revised life id found.id (settled_entry commits) s.entries (settle_leaves_none life commits)
+    by (Ok (NotYours mark)) = omega arith
+    by (Err lost) = omega arith
+
 -- a unit of another incarnation has none of its marks
 none_of_other : (life : FailedLife) (found : MarkedEntry) (r : Result Settled Lost) → is_of life found.unit ≡ false → came_off_by life found r ≡ 0
 none_of_other life found (Ok Done) other = ap one_if other
@@ -209,3 +243,4 @@ settle_leaves life commits c found p q other ordered within is =
     let s = structure_in c.structure p.structures in
     one_leaves life c.structure (off_in commits c found s) p q within is (settle_off life commits c found s (ordered.ordered c.structure))
     (omega (arith, settle_counts life commits c found s, none_of_other life found (settle_answer s c found.id found.unit) other))
+    (settle_no_more life commits c found s)

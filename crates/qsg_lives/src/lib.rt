@@ -3,10 +3,12 @@
 //!
 //! - `keeping`: what leaves a group steady, and which tasks it spares.
 //! - `marking`: incarnations that are over, and their marks.
+//! - `setting`: which marks steps set, which ids entries have, and what stays empty.
 #![tactic(auto)]
 
 mod keeping;
 mod marking;
+mod setting;
 
 pub use keeping::{
     a_crash_keeps_the_group_steady, a_mark_that_comes_off_keeps_the_group_steady,
@@ -19,4 +21,9 @@ pub use marking::{
     a_request_leaves_the_marks_of_the_dead, a_unit_in_hand_is_of_no_incarnation_that_is_over,
     a_unit_leaves_the_marks_of_others, an_incarnation_that_is_over_stays_over,
     the_same_structures_have_the_same_marks,
+};
+pub use setting::{
+    a_request_sets_one_mark_at_most, an_incarnation_without_marks_gets_none,
+    entries_keep_ids_above_0, marks_are_of_incarnations_that_were_given, other_steps_set_no_marks,
+    what_isnt_active_stays_empty,
 };

@@ -39,6 +39,7 @@ ghost use Rattle.qsg_peer.specs.Needs.{HasStructure, MayStepAt};
 ghost use Rattle.qsg_peer.specs.Steps.{NextPeer, mark_answer, with_mark_off};
 ghost use Rattle.qsg_peer.specs.Machine.{is_of, IsOver};
 ghost use Rattle.qsg_peer.specs.Sweeping.{AreOrdered};
+ghost use Rattle.qsg_peer.specs.Pace.{HasNoMoreMarks};
 ghost use Rattle.qsg_lives.specs.Marks.{marks_left, StaysSwept, LeavesMarks, came_off_by, came_off};
 
 /// An incarnation that is over stays so in the steps of all actors; a crash ends the one that was up.
@@ -81,10 +82,11 @@ pub fn a_mark_that_comes_off_leaves_the_others()
 {}
 
 /// A step of a peer's work takes the marks off that come off at its phase, which the work counts, and leaves those of all
-/// other incarnations; marks that are off stay off.
+/// other incarnations; marks that are off stay off, and above no id are more of any incarnation than before.
 pub fn a_peers_step_takes_its_mark_off()
     ensures marks { (life : FailedLife) (skip : List (Member × Incarnation)) (w : PeerWork) (p : Owned) (result : Result PeerTurn NoMemory) (v : PeerWork) (q : Owned) → IsSound w.phase w.walk → MayStepAt w.phase p → NextPeer skip w p result v q → marks_left life p ≡ marks_left life q + came_off life w.phase p }
     ensures counts { (life : FailedLife) (stage : Stage) (skip : List (Member × Incarnation)) (w : PeerWork) (p : Owned) (turn : PeerTurn) (v : PeerWork) (q : Owned) → w.phase ≡ At life stage → IsSoundAt life stage w.walk → w.settled + came_off life w.phase p < 2 ^ 32
         → NextPeer skip w p (Ok turn) v q → v.settled ≡ w.settled + came_off life w.phase p }
     ensures swept { (life : FailedLife) (skip : List (Member × Incarnation)) (w : PeerWork) (p : Owned) (result : Result PeerTurn NoMemory) (v : PeerWork) (q : Owned) → IsSound w.phase w.walk → AreOrdered p → MayStepAt w.phase p → NextPeer skip w p result v q → StaysSwept life p q }
+    ensures above { (life : FailedLife) (skip : List (Member × Incarnation)) (w : PeerWork) (p : Owned) (result : Result PeerTurn NoMemory) (v : PeerWork) (q : Owned) → MayStepAt w.phase p → NextPeer skip w p result v q → HasNoMoreMarks life p q }
 {}

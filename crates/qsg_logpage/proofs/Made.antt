@@ -1,10 +1,10 @@
 -- the page that a step makes safe
-use Rattle.std.proofs.Common.{◌≡◌, ℕ, ◌+◌, ◌-◌, ◌/◌, ◌<◌, ◌≤◌, List, [], ◌∷◌, ◌++◌, Option, Some, None, true, refl, sym, ap, subst, ◌∙◌, arith}
+use Rattle.std.proofs.Common.{◌≡◌, ℕ, ◌+◌, ◌-◌, ◌/◌, ◌<◌, ◌≤◌, List, [], ◌∷◌, ◌++◌, Option, Some, None, true, sym, ap, subst, ◌∙◌, arith}
 use Rattle.std.proofs.lemmas.List.{append-nil}
 use Rattle.qsg_disk.specs.Byte.{Byte}
 use Rattle.qsg_logpage.specs.declared.step.Phase.{Phase}
 use Rattle.qsg_logpage.specs.declared.step.Phase.TheVariants.{Fresh, GateShut, ShutSafe, BodyWritten, BodySafe, GateWritten}
-use Rattle.qsg_logpage.specs.Page.{page_at, with_lap, is_safely_open, body_of, open_pages, IsWhole}
+use Rattle.qsg_logpage.specs.Page.{page_at, with_lap, is_safely_open, open_pages, IsWhole}
 use Rattle.qsg_logpage.specs.Log.{Hand, LogState, first_body, IsTied, AreWhole, advanced, advanced_by, made_by, made_safe, pages_written}
 use Rattle.qsg_logpage.proofs.Cuts.{same_pages, open_here, pages_split, whole_open, whole_body}
 use Rattle.qsg_logpage.proofs.Steps.{IsInHand}

@@ -22,7 +22,7 @@ mod writer;
 
 pub use laws::{keep_may_rise, new_log_is_empty, pages_end_at_the_next};
 pub use power::power_cut;
-pub use read::{ReadError, read_page};
+pub use read::{page_room, read_page};
 pub use step::{InHand, LogStep, Phase};
 pub use table::{RESERVATIONS, Reservation};
 pub use writer::{LogWriter, NoLog};

@@ -2,7 +2,7 @@
 
 ghost use Rattle.std.specs.Prelude.{◌≡◌, IfOk, length};
 
-use crate::{LogWriter, read_page};
+use crate::{LogWriter, page_room, read_page};
 use qsg_disk::Disk;
 use qsg_disk_mem::MemDisk;
 use qsg_num::{Incarnation, Member, Page, PageNo, Pages, UnitName};
@@ -38,8 +38,10 @@ fn read_from(alloc: Global, disk: &mut MemDisk, first: u32) -> [bool; 3] {
     let mut found = [false; 3];
     for i in 0..3 {
         let number = first.saturating_add(i as u32);
-        if disk.size() == 12288 {
-            found[i] = matches!(read_page(alloc, disk, PageNo { number }), Ok(Some(_)));
+        if disk.size() == 12288
+            && let Ok(room) = page_room(alloc)
+        {
+            found[i] = matches!(read_page(disk, PageNo { number }, room), Ok(Some(_)));
         }
     }
     found

@@ -1,11 +1,10 @@
 //! The logs of a group, by the numbers of its members.
 
-ghost use Rattle.std.specs.Prelude.{◌≡◌, ◌<◌, ◌≤◌, ◌+◌, ◌++◌, ℕ, List, true, false, None, Some, IfOk, OnOk, OnErr, IfSome, IsErrOf, IsSome, length};
+ghost use Rattle.std.specs.Prelude.{◌≡◌, ◌<◌, ◌≤◌, ◌+◌, ◌++◌, ℕ, List, true, false, None, Some, IfOk, OnOk, OnErr, IfSome, IsSome, length};
 ghost use Rattle.qsg_num.specs.Seats.{member_number};
 ghost use Rattle.qsg_num.specs.Faults.{HasCause, Rose};
 ghost use Rattle.qsg_disk.specs.Byte.{Byte};
 ghost use Rattle.qsg_logpage.specs.Page.{page_at};
-ghost use Rattle.qsg_logpage.specs.declared.read.ReadError.{ReadError};
 ghost use Rattle.qsg_logpage.specs.Reserved.{besides, pages_for};
 ghost use Rattle.qsg_logpage.specs.Log.{IsTied, advanced, made_safe, pages_written, step_of, in_hand_of, has_run};
 ghost use Rattle.qsg_logs.specs.Writers.{reserve_answer};
@@ -16,9 +15,8 @@ ghost use Rattle.qsg_logs.specs.Cuts.{IsCut, restarted};
 use crate::member_log::MemberLog;
 use qsg_disk::{Disk, Failed};
 use qsg_logneed::LONGEST_RECORD;
-use qsg_logpage::{InHand, LogStep, NoLog, ReadError};
-use qsg_num::{Member, PAGE_NUMBERS, Page, PageNo, Pages, TaskNo, UnitName};
-use std::alloc::Global;
+use qsg_logpage::{InHand, LogStep, NoLog};
+use qsg_num::{Member, PAGE_BYTES, PAGE_NUMBERS, Page, PageNo, Pages, TaskNo, UnitName};
 use std::marker::Model;
 
 /// The logs of the members of a group. A call changes the log of its member alone.
@@ -200,22 +198,23 @@ impl<D: Disk> Logs<D> {
         self.items[member.index()].size()
     }
 
-    /// Reads the body of a page of a member's log. None exactly where none stands there. It changes no byte; a failure of
-    /// the device comes only where its count of faults rose.
+    /// Reads the body of a page of a member's log, into room for a page. None exactly where none stands there. It
+    /// changes no byte; a failure of the device comes only where its count of faults rose.
     pub fn read_page(
         &mut self,
-        alloc: Global,
         member: Member,
         no: PageNo,
-    ) -> Result<Option<Page>, ReadError>
+        room: Vec<u8>,
+    ) -> Result<Option<Page>, Failed>
         requires within { member_number member ≤ length self.old }
+        requires room { length room.items ≡ PAGE_BYTES }
         ensures others { self.new ≡ with_log member (log_in member self.new) self.old }
         ensures read { IsRead (log_in member self.old) (log_in member self.new) }
         ensures found { IfOk result (λ found. IsFound no.number (log_in member self.old) found) }
-        ensures failed { IsErrOf result ReadError.Failed → Rose (log_in member self.old).faults (log_in member self.new).faults }
+        ensures failed { OnErr result (Rose (log_in member self.old).faults (log_in member self.new).faults) }
     {
         let log = &mut self.items[member.index()];
-        log.read_page(alloc, no)
+        log.read_page(no, room)
     }
 
     /// The power of a member's device goes and comes back, and the writer of its log goes on behind the pages that stand

@@ -1,10 +1,9 @@
 //! The log of one member.
 
-ghost use Rattle.std.specs.Prelude.{◌≡◌, ◌<◌, ◌≤◌, ◌+◌, ◌*◌, ◌%◌, ◌^◌, ◌++◌, ℕ, List, true, false, None, Some, IfOk, OnOk, OnErr, IfSome, IsErrOf, IsSome, length};
+ghost use Rattle.std.specs.Prelude.{◌≡◌, ◌<◌, ◌≤◌, ◌+◌, ◌*◌, ◌%◌, ◌^◌, ◌++◌, ℕ, List, true, false, None, Some, IfOk, OnOk, OnErr, IfSome, IsSome, length};
 ghost use Rattle.qsg_num.specs.Faults.{HasCause, Rose};
 ghost use Rattle.qsg_disk.specs.Byte.{Byte};
 ghost use Rattle.qsg_logpage.specs.Page.{page_at};
-ghost use Rattle.qsg_logpage.specs.declared.read.ReadError.{ReadError};
 ghost use Rattle.qsg_logpage.specs.Reserved.{besides, pages_for};
 ghost use Rattle.qsg_logpage.specs.Log.{LogState, IsTied, advanced, made_safe, pages_written, step_of, in_hand_of, has_run};
 ghost use Rattle.qsg_logs.specs.Writers.{reserve_answer, new_writer, next_after};
@@ -14,16 +13,15 @@ ghost use Rattle.qsg_logs.specs.Cuts.{IsCut, next_behind, restarted};
 
 use qsg_disk::{Disk, Failed};
 use qsg_logneed::{Filling, LONGEST_RECORD, commit_bytes};
-use qsg_logpage::{InHand, LogStep, LogWriter, NoLog, ReadError, read_page};
+use qsg_logpage::{InHand, LogStep, LogWriter, NoLog, read_page};
 use qsg_num::{PAGE_BYTES, PAGE_NUMBERS, Page, PageNo, Pages, TaskNo, UnitName};
 use qsg_unitlog::power_cut;
-use std::alloc::Global;
 use std::marker::Model;
 
 /// Tasks of a member, its system task among them.
 const ALL_TASKS: usize = 5;
 
-/// What a member keeps of its log. Of its calls `read_page` alone takes memory.
+/// What a member keeps of its log. Its calls take no memory: `read_page` is given room for its page.
 #[derive(Drop)]
 pub struct MemberLog<D: Disk> {
     device: D,
@@ -252,13 +250,14 @@ impl<D: Disk> MemberLog<D> {
         self.device.size() / PAGE_BYTES
     }
 
-    /// Reads the body of a page. None exactly where none stands there. It changes no byte.
-    pub fn read_page(&mut self, alloc: Global, no: PageNo) -> Result<Option<Page>, ReadError>
+    /// Reads the body of a page, into room for a page. None exactly where none stands there. It changes no byte.
+    pub fn read_page(&mut self, no: PageNo, room: Vec<u8>) -> Result<Option<Page>, Failed>
+        requires room { length room.items ≡ PAGE_BYTES }
         ensures read { IsRead self.old self.new }
         ensures found { IfOk result (λ found. IsFound no.number self.old found) }
-        ensures failed { IsErrOf result ReadError.Failed → Rose self.old.faults self.new.faults }
+        ensures failed { OnErr result (Rose self.old.faults self.new.faults) }
     {
-        read_page(alloc, &mut self.device, no)
+        read_page(&mut self.device, no, room)
     }
 
     /// The power of its device goes and comes back, and its writer goes on behind the pages that stand then. Answers

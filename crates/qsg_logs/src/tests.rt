@@ -7,7 +7,7 @@ ghost use Rattle.qsg_logs.specs.Kept.{log_in, no_fillings};
 
 use super::*;
 use qsg_disk_mem::MemDisk;
-use qsg_logpage::{LogStep, NoLog};
+use qsg_logpage::{LogStep, NoLog, page_room};
 use qsg_num::{Incarnation, Member, Page, PageNo, Pages, TaskNo, UnitName};
 use std::alloc::Global;
 use std::test::*;
@@ -117,7 +117,11 @@ fn a_run_is_written(rt: HostRuntime) {
     if logs.len() == 2 {
         assert_eq!(rt; logs.next_page(Member::One).number, 1);
         assert_eq!(rt; logs.next_page(Member::Two).number, 0);
-        let body = logs.read_page(rt.alloc(), Member::One, KEEP);
+        let Ok(room) = page_room(rt.alloc()) else {
+            assert!(rt; false);
+            return;
+        };
+        let body = logs.read_page(Member::One, KEEP, room);
         assert!(rt; matches!(body, Ok(Some(_))));
         assert_eq!(rt; logs.cut(Member::One, 7), false);
         assert_eq!(rt; logs.next_page(Member::One).number, 1);

@@ -42,17 +42,17 @@ fed_leaves (Some kept) old new records is feeds = (ap (λ (w : Walk). w.kept) fe
 walk_is : (next : Next) (turn : PeerTurn) (v : Work) (q : Owned) → record { turn = turn; work = v; parts = q } ≡ next → v.walk ≡ next.work.walk
 walk_is next turn v q is = ap (λ (n : Next). n.work.walk) is
 
-read_walk : (life : FailedLife) (first : ℕ) (w : Work) (p : Owned) (result : Result PeerTurn NoMemory) (v : Work) (q : Owned) → 0 < w.walk.left → w.walk.kept ≡ None → Reads life w p result v q → (log_in life.member p.logs).tells ≡ true
+read_walk : (life : FailedLife) (first : ℕ) (w : Work) (p : Owned) (turn : PeerTurn) (v : Work) (q : Owned) → 0 < w.walk.left → w.walk.kept ≡ None → Reads life w p turn v q → (log_in life.member p.logs).tells ≡ true
     → IsFollowed life first p w.walk → IsFollowed life first p v.walk
-read_walk life first w p (Ok turn) v q goes none (has, inl failed) tells follows = subst (λ (x : Work). IsFollowed life first p x.walk) (sym failed.work_is) follows
-read_walk life first w p (Ok turn) v q goes none (has, inr found) tells follows =
+read_walk life first w p turn v q goes none (has, inl failed) tells follows = subst (λ (x : Work). IsFollowed life first p x.walk) (sym failed.work_is) follows
+read_walk life first w p turn v q goes none (has, inr found) tells follows =
     subst (IsFollowed life first p) (sym found.kept.walk_is)
     (read_one first (log_in life.member p.logs).writer.size (log_in life.member p.logs).bytes w.walk found.kept.found follows none goes (found.kept.page.page tells))
-read_walk life first w p (Err e) v q goes none reads tells follows = subst (λ (x : Work). IsFollowed life first p x.walk) (sym reads.1) follows
 
 act_walk : (life : FailedLife) (stage : Stage) (first : ℕ) (w : Work) (p : Owned) (result : Result PeerTurn NoMemory) (v : Work) (q : Owned) → IsSoundAt life stage w.walk → w.walk.kept ≡ None → Acts life stage w p result v q
     → (log_in life.member p.logs).tells ≡ true → IsFollowed life first p w.walk → IsFollowed life first p v.walk
-act_walk life Read first w p result v q sound none acts tells follows = read_walk life first w p result v q sound none acts tells follows
+act_walk life Read first w p (Ok turn) v q sound none acts tells follows = read_walk life first w p turn v q sound none acts tells follows
+act_walk life Read first w p (Err e) v q sound none acts tells follows = absurd acts
 act_walk life (Connect s) first w p (Ok turn) v q sound none acts tells follows = subst (IsFollowed life first p) (sym (walk_is (after_connect life s w p) turn v q acts)) follows
 act_walk life (Connect s) first w p (Err e) v q sound none acts tells follows = absurd acts
 act_walk life (Search connection after) first w p (Ok turn) v q sound none acts tells follows = subst (IsFollowed life first p) (sym (walk_is (after_search life connection after w p) turn v q acts)) follows

@@ -58,7 +58,7 @@ read_rest life p q has = record {
 
 act_rest : (life : FailedLife) (stage : Stage) (w : Work) (p : Owned) (result : Result PeerTurn NoMemory) (v : Work) (q : Owned) → Acts life stage w p result v q → LeavesRest p q
 act_rest life Read w p (Ok turn) v q acts = read_rest life p q acts.0
-act_rest life Read w p (Err e) v q acts = read_rest life p q acts.0
+act_rest life Read w p (Err e) v q acts = absurd acts
 act_rest life (Connect s) w p (Ok turn) v q acts = all_same p q (parts_are (after_connect life s w p) turn v q acts)
 act_rest life (Connect s) w p (Err e) v q acts = absurd acts
 act_rest life (Search connection after) w p (Ok turn) v q acts = all_same p q (parts_are (after_search life connection after w p) turn v q acts)
@@ -96,7 +96,7 @@ rest_left skip w p result v q next = rest_at skip w.phase w p result v q next
 
 act_structures : (life : FailedLife) (stage : Stage) (w : Work) (p : Owned) (result : Result PeerTurn NoMemory) (v : Work) (q : Owned) → Acts life stage w p result v q → is_settle stage ≡ false → LeavesStructures p q
 act_structures life Read w p (Ok turn) v q acts other = ap (λ (x : Owned). x.structures) acts.0.others
-act_structures life Read w p (Err e) v q acts other = ap (λ (x : Owned). x.structures) acts.0.others
+act_structures life Read w p (Err e) v q acts other = absurd acts
 act_structures life (Connect s) w p (Ok turn) v q acts other = ap (λ (x : Owned). x.structures) (parts_are (after_connect life s w p) turn v q acts)
 act_structures life (Connect s) w p (Err e) v q acts other = absurd acts
 act_structures life (Search connection after) w p (Ok turn) v q acts other = ap (λ (x : Owned). x.structures) (parts_are (after_search life connection after w p) turn v q acts)

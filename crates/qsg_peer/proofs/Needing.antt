@@ -1,6 +1,6 @@
 -- what a step leaves is what the next one needs, and which steps take memory
 use Rattle.std.proofs.Common.{◌≡◌, inl, inr, ℕ, ◌+◌, ◌-◌, ◌≤◌, Bool, true, false, cond, List, [], ◌∷◌, length, Option, Some, None, Result, Ok, Err, IfOk, refl, sym, ap, subst, ◌∙◌, arith}
-use Rattle.std.specs.Prelude.{◌==◌, ◌||◌, nat_le, OnErr, IsSome, is_some, map, filter, fold}
+use Rattle.std.specs.Prelude.{◌==◌, ◌||◌, nat_le, OnErr, is_some, map, filter, fold}
 use Rattle.std.specs.List.{AllByRecursion}
 use Rattle.std.proofs.lemmas.Bool.Decides.{nat_tests}
 use Rattle.std.proofs.lemmas.List.{length-set}
@@ -32,7 +32,7 @@ use Rattle.qsg_peer.specs.declared.phases.Phase.TheVariants.{Find, Low, At}
 use Rattle.qsg_peer.specs.declared.phases.Stage.{Stage}
 use Rattle.qsg_peer.specs.declared.phases.Stage.TheVariants.{Read, Connect, Search, Settle, Resolve}
 use Rattle.qsg_peer.specs.Works.{Work}
-use Rattle.qsg_peer.specs.Needs.{HasLog, MayStepOn, MayStepAt, AreMembers, is_read_stage, is_reading, takes_memory}
+use Rattle.qsg_peer.specs.Needs.{HasLog, MayStepOn, MayStepAt, AreMembers, is_reading, takes_memory}
 use Rattle.qsg_peer.specs.Steps.{Next, found_phase, after_find, after_low, stage_at, from_structure, walking, first_walk, Reads, connected, searched, search_answer, settled_stage, mark_answer, after_connect, after_search, after_settle, with_mark_off, after_resolve, Makes, Acts, GoesOn, NextAt, NextPeer}
 
 -- ---- an incarnation that is found is one that was given
@@ -45,7 +45,7 @@ lesser_is Q (Some a) x old new y is = by (is_before x a) is
     by true same = subst Q (same_Some x y same) new
     by false same = old y same
 
-least_is : (Q : Member × Incarnation → Type 0) (names : List (Member × Incarnation)) (a : Option (Member × Incarnation)) → ((y : Member × Incarnation) → a ≡ Some y → Q y) → AllByRecursion Q names
+pub least_is : (Q : Member × Incarnation → Type 0) (names : List (Member × Incarnation)) (a : Option (Member × Incarnation)) → ((y : Member × Incarnation) → a ≡ Some y → Q y) → AllByRecursion Q names
     → (y : Member × Incarnation) → fold lesser a names ≡ Some y → Q y
 least_is Q [] a old all = old
 least_is Q (x ∷ names) a old all = least_is Q names (lesser a x) (lesser_is Q a x old all.0) all.1
@@ -95,7 +95,7 @@ find_ready skip w p turn v q members next more = by (first_open skip p.repo.live
     by None is made = absurd (cc (ends (after_find (found_phase None) w p) turn v q made more))
     by (Some (m, i)) is made = may_by (after_find (found_phase (Some (m, i))) w p) turn v q made (found_member (λ x. HasLog x p) skip p.repo.lives (m, i) members is)
 
-read_ready : (life : FailedLife) (w : Work) (p : Owned) (turn : PeerTurn) (v : Work) (q : Owned) → HasLog life.member p → Reads life w p (Ok turn) v q → turn ≡ More → MayStepAt v.phase q
+read_ready : (life : FailedLife) (w : Work) (p : Owned) (turn : PeerTurn) (v : Work) (q : Owned) → HasLog life.member p → Reads life w p turn v q → turn ≡ More → MayStepAt v.phase q
 read_ready life w p turn v q log (has, inl failed) more = absurd (cc (failed.turn_is, more))
 read_ready life w p turn v q log (has, inr found) more =
     let still : HasLog life.member q = subst (λ (n : ℕ). member_number life.member ≤ n)
@@ -146,31 +146,35 @@ pub ready_after : (skip : List (Member × Incarnation)) (w : Work) (p : Owned) (
 ready_after skip w p (Ok turn) v q members may next = ready_at skip w.phase w p turn v q members may next
 ready_after skip w p (Err e) v q members may next = tt
 
--- ---- which steps take memory
+-- ---- which steps take memory, and what one that lacks it leaves
 
-kept_takes : {A : Type 0} (reads : Bool) (kept : Option A) → IsSome kept → (reads || is_some kept) ≡ true
-kept_takes true kept some = refl
-kept_takes false None some = absurd (cc some)
-kept_takes false (Some x) some = refl
+act_unmade : (life : FailedLife) (stage : Stage) (w : Work) (p : Owned) (e : NoMemory) (v : Work) (q : Owned) → Acts life stage w p (Err e) v q → ⊥
+act_unmade life Read w p e v q acts = acts
+act_unmade life (Connect s) w p e v q acts = acts
+act_unmade life (Search connection after) w p e v q acts = acts
+act_unmade life (Settle connection found) w p e v q acts = acts
+act_unmade life Resolve w p e v q acts = acts
 
-act_memory : (life : FailedLife) (stage : Stage) (w : Work) (p : Owned) (e : NoMemory) (v : Work) (q : Owned) (kept : Bool) → Acts life stage w p (Err e) v q → (is_read_stage stage || kept) ≡ true
-act_memory life Read w p e v q kept acts = refl
-act_memory life (Connect s) w p e v q kept acts = absurd acts
-act_memory life (Search connection after) w p e v q kept acts = absurd acts
-act_memory life (Settle connection found) w p e v q kept acts = absurd acts
-act_memory life Resolve w p e v q kept acts = absurd acts
+-- nothing is changed, by a step that takes memory
+record IsUnmade (takes : Bool) (w : Work) (p : Owned) (v : Work) (q : Owned) : Type 0 where
+  takes_is : takes ≡ true
+  work_is : v ≡ w
+  parts_are : q ≡ p
 
-memory_at : (skip : List (Member × Incarnation)) (phase : Phase) (w : Work) (p : Owned) (e : NoMemory) (v : Work) (q : Owned) → NextAt skip phase w p (Err e) v q
-    → (is_reading phase || is_some w.walk.kept) ≡ true
-memory_at skip Find w p e v q next = absurd next
-memory_at skip (Low life) w p e v q next = absurd next
-memory_at skip (At life stage) w p e v q (inl given) = absurd (cc given.turn_is)
-memory_at skip (At life stage) w p e v q (inr (inl lacks)) = kept_takes (is_read_stage stage) w.walk.kept lacks.kept
-memory_at skip (At life stage) w p e v q (inr (inr acted)) = act_memory life stage (record w { walk = acted.walk }) p e v q (is_some w.walk.kept) acted.acts
+unmade_at : (skip : List (Member × Incarnation)) (phase : Phase) (w : Work) (p : Owned) (e : NoMemory) (v : Work) (q : Owned) → NextAt skip phase w p (Err e) v q → IsUnmade (is_reading phase || is_some w.walk.kept) w p v q
+unmade_at skip Find w p e v q next = absurd next
+unmade_at skip (Low life) w p e v q next = absurd next
+unmade_at skip (At life stage) w p e v q (inl given) = absurd (cc given.turn_is)
+unmade_at skip (At life stage) w p e v q (inr (inl lacks)) = record { takes_is = lacks.takes; work_is = lacks.work_is; parts_are = lacks.parts_are }
+unmade_at skip (At life stage) w p e v q (inr (inr acted)) = absurd (act_unmade life stage (record w { walk = acted.walk }) p e v q acted.acts)
 
 pub memory_taken : (skip : List (Member × Incarnation)) (w : Work) (p : Owned) (result : Result PeerTurn NoMemory) (v : Work) (q : Owned) → NextPeer skip w p result v q → OnErr result (takes_memory w ≡ true)
 memory_taken skip w p (Ok turn) v q next = tt
-memory_taken skip w p (Err e) v q next = memory_at skip w.phase w p e v q next
+memory_taken skip w p (Err e) v q next = (unmade_at skip w.phase w p e v q next).takes_is
+
+pub unmade : (skip : List (Member × Incarnation)) (w : Work) (p : Owned) (result : Result PeerTurn NoMemory) (v : Work) (q : Owned) → NextPeer skip w p result v q → OnErr result ((v ≡ w) × (q ≡ p))
+unmade skip w p (Ok turn) v q next = tt
+unmade skip w p (Err e) v q next = let left = unmade_at skip w.phase w p e v q next in (left.work_is, left.parts_are)
 
 -- ---- a group of the largest size has all that is needed
 

@@ -34,7 +34,7 @@ use Rattle.qsg_peer.specs.declared.phases.Stage.TheVariants.{Read, Connect, Sear
 use Rattle.qsg_peer.specs.Works.{Work, IsSoundAt, IsSound}
 use Rattle.qsg_peer.specs.Needs.{HasStructure, MayStepOn, MayStepAt}
 use Rattle.qsg_peer.specs.Steps.{Next, life_of, found_phase, after_find, after_low, from_structure, after_structure, walking, first_walk, Reads, no_id, connected, searched, search_answer, settled_stage, mark_answer, with_mark_off, after_connect, after_search, after_settle, after_resolve, Acts, GoesOn, NextAt, NextPeer}
-use Rattle.qsg_peer.specs.Pace.{marks_above, marks_above_in, left_in, left_behind, left_in_all, left_on, left_at, left_of_peer, whole_peer, HasFoundLife, HasNoMoreMarks}
+use Rattle.qsg_peer.specs.Pace.{marks_above, marks_above_in, left_in, left_behind, left_in_all, left_on, left_at, left_of_peer, whole_peer, HasFoundLife, HasNoMoreMarks, HasNoMoreAt}
 use Rattle.qsg_peer.proofs.Following.{fed_leaves, sound_fed}
 use Rattle.qsg_peer.proofs.SweepingLists.{unnamed}
 use Rattle.qsg_peer.proofs.PaceLists.{above_fewer, above-le-all, found_less, above_revised, four_within}
@@ -92,12 +92,12 @@ stage_fewer life (Search connection after) walk p q fewer = omega (arith, fewer 
 stage_fewer life (Settle connection found) walk p q fewer = omega (arith, fewer found.id connection.structure, behind_fewer life connection.structure p q fewer)
 stage_fewer life Resolve walk p q fewer = omega arith
 
-at_fewer : (phase : Phase) (walk : Walk) (p q : Owned) → ((life : FailedLife) → HasNoMoreMarks life p q) → ((m : Member) → (log_in m q.logs).writer.size ≡ (log_in m p.logs).writer.size) → left_at phase walk q ≤ left_at phase walk p
+at_fewer : (phase : Phase) (walk : Walk) (p q : Owned) → HasNoMoreAt phase p q → ((m : Member) → (log_in m q.logs).writer.size ≡ (log_in m p.logs).writer.size) → left_at phase walk q ≤ left_at phase walk p
 at_fewer Find walk p q fewer size = omega arith
-at_fewer (Low life) walk p q fewer size = omega (arith, size life.member, in_fewer life s.One p q (fewer life), behind_fewer life s.One p q (fewer life))
-at_fewer (At life stage) walk p q fewer size = stage_fewer life stage walk p q (fewer life)
+at_fewer (Low life) walk p q fewer size = omega (arith, size life.member, in_fewer life s.One p q fewer, behind_fewer life s.One p q fewer)
+at_fewer (At life stage) walk p q fewer size = stage_fewer life stage walk p q fewer
 
-pub steps_fewer : (w : Work) (p q : Owned) → ((life : FailedLife) → HasNoMoreMarks life p q) → ((m : Member) → (log_in m q.logs).writer.size ≡ (log_in m p.logs).writer.size) → left_of_peer w q ≤ left_of_peer w p
+pub steps_fewer : (w : Work) (p q : Owned) → HasNoMoreAt w.phase p q → ((m : Member) → (log_in m q.logs).writer.size ≡ (log_in m p.logs).writer.size) → left_of_peer w q ≤ left_of_peer w p
 steps_fewer w p q fewer size = at_fewer w.phase w.walk p q fewer size
 
 -- ---- the most that are left
@@ -164,7 +164,7 @@ read_less : (found : Option (List ℕ)) (walk : Walk) → 0 < walk.left → (aft
 read_less None walk goes = omega (arith, goes)
 read_less (Some body) walk goes = omega (arith, goes)
 
-read_left : (life : FailedLife) (w : Work) (p : Owned) (v : Work) (q : Owned) → 0 < w.walk.left → Reads life w p (Ok More) v q → left_of_peer v q < left_on life Read w.walk p
+read_left : (life : FailedLife) (w : Work) (p : Owned) (v : Work) (q : Owned) → 0 < w.walk.left → Reads life w p More v q → left_of_peer v q < left_on life Read w.walk p
 read_left life w p v q goes (has, inl failed) = absurd (cc failed.turn_is)
 read_left life w p v q goes (has, inr found) =
     subst (λ (x : Work). left_of_peer x q < left_on life Read w.walk p) (sym found.work_is)

@@ -170,7 +170,7 @@ find_swept : (phase : Option Phase) (name : Option (Member × Incarnation)) (w :
 find_swept phase None w p is swept = swept
 find_swept phase (Some (m, i)) w p is swept = tt
 
-read_swept : (life : FailedLife) (w : Work) (p : Owned) (turn : PeerTurn) (v : Work) (q : Owned) → w.phase ≡ At life Read → Reads life w p (Ok turn) v q → HasSweptAt v.phase q
+read_swept : (life : FailedLife) (w : Work) (p : Owned) (turn : PeerTurn) (v : Work) (q : Owned) → w.phase ≡ At life Read → Reads life w p turn v q → HasSweptAt v.phase q
 read_swept life w p turn v q at (has, inl failed) = subst (λ (x : Phase). HasSweptAt x q) (sym (ap (λ (x : Work). x.phase) failed.work_is ∙ at)) tt
 read_swept life w p turn v q at (has, inr found) = subst (λ (x : Work). HasSweptAt x.phase q) (sym found.work_is) (first_swept life (length p.structures) v.walk q (sym (ap (λ (x : Owned). length x.structures) has.others)))
 

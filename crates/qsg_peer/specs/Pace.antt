@@ -79,3 +79,9 @@ pub record HasFoundLife (skip : List (Member × Incarnation)) (w : Work) (p : Ow
 -- above no id of any structure are more marks of the incarnation than before
 abbrev pub HasNoMoreMarks : FailedLife → Owned → Owned → Type 0
 HasNoMoreMarks life p q = (id : EntryId) (s : StructNo) → marks_above_in life id s q ≤ marks_above_in life id s p
+
+-- nor of the one that a work has found
+abbrev pub HasNoMoreAt : Phase → Owned → Owned → Type 0
+HasNoMoreAt Find p q = Unit {0}
+HasNoMoreAt (Low life) p q = HasNoMoreMarks life p q
+HasNoMoreAt (At life stage) p q = HasNoMoreMarks life p q

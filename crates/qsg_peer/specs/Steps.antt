@@ -1,5 +1,5 @@
 -- what each step of a peer's work does, exactly
-use Rattle.std.specs.Prelude.{ℕ, Bool, ◌≡◌, ◌+◌, ◌-◌, ◌^◌, ◌⊎◌, min, nat_le, ◌==◌, List, length, Option, Some, None, IsSome, IsErr, Result, Ok, Err, if◌then◌else◌, option_map}
+use Rattle.std.specs.Prelude.{ℕ, Bool, true, ◌≡◌, ◌||◌, ◌+◌, ◌-◌, ◌^◌, ◌⊎◌, min, nat_le, ◌==◌, List, length, Option, Some, None, is_some, IsErr, Result, Ok, Err, if◌then◌else◌, option_map}
 use Rattle.qsg_num.specs.declared.seats.Member.{Member}
 use Rattle.qsg_num.specs.declared.seats.StructNo.{StructNo}
 use Rattle.qsg_num.specs.declared.ids.EntryId.{EntryId}
@@ -36,6 +36,7 @@ use Rattle.qsg_peer.specs.declared.phases.Phase.TheVariants.{Find, Low, At}
 use Rattle.qsg_peer.specs.declared.phases.Stage.{Stage}
 use Rattle.qsg_peer.specs.declared.phases.Stage.TheVariants.{Read, Connect, Search, Settle, Resolve}
 use Rattle.qsg_peer.specs.Works.{Work}
+use Rattle.qsg_peer.specs.Needs.{is_read_stage}
 
 -- how a step ended, and what it left
 pub record Next : Type 0 where
@@ -114,9 +115,8 @@ pub record HasFound (life : FailedLife) (w : Work) (p : Owned) (turn : PeerTurn)
   pub turn_is : turn ≡ More
   pub work_is : v ≡ with_walk life v.walk w p
 
-abbrev pub Reads : FailedLife → Work → Owned → Result PeerTurn NoMemory → Work → Owned → Type 0
-Reads life w p (Ok turn) v q = HasRead life p q × (HasFailed life w p turn v q ⊎ HasFound life w p turn v)
-Reads life w p (Err e) v q = HasRead life p q × (v ≡ w)
+abbrev pub Reads : FailedLife → Work → Owned → PeerTurn → Work → Owned → Type 0
+Reads life w p turn v q = HasRead life p q × (HasFailed life w p turn v q ⊎ HasFound life w p turn v)
 
 -- ---- the marks of a structure
 
@@ -188,14 +188,15 @@ after_resolve life w p = record { turn = Resolved life.member life.incarnation w
 
 -- ---- a step, by the phase and by how it ended
 
--- a step that takes no memory leaves exactly this
+-- an action that takes no memory leaves exactly this
 abbrev pub Makes : Next → Result PeerTurn NoMemory → Work → Owned → Type 0
 Makes next (Ok turn) v q = record { turn = turn; work = v; parts = q } ≡ next
 Makes next (Err e) v q = ⊥
 
--- the step's own action, with no page kept
+-- the step's own action, with no page kept and with room for a page that it reads
 abbrev pub Acts : FailedLife → Stage → Work → Owned → Result PeerTurn NoMemory → Work → Owned → Type 0
-Acts life Read w p result v q = Reads life w p result v q
+Acts life Read w p (Ok turn) v q = Reads life w p turn v q
+Acts life Read w p (Err e) v q = ⊥
 Acts life (Connect s) w p result v q = Makes (after_connect life s w p) result v q
 Acts life (Search connection after) w p result v q = Makes (after_search life connection after w p) result v q
 Acts life (Settle connection found) w p result v q = Makes (after_settle life connection found w p) result v q
@@ -209,9 +210,9 @@ pub record HasGivenUp (life : FailedLife) (w : Work) (p : Owned) (result : Resul
   pub work_is : v ≡ w
   pub parts_are : q ≡ p
 
--- memory ran out while a page that was kept was fed
-pub record LacksMemory (w : Work) (p : Owned) (result : Result PeerTurn NoMemory) (v : Work) (q : Owned) : Type 0 where
-  pub kept : IsSome w.walk.kept
+-- memory ran out, for a page to read or while one that was kept was fed: nothing is done
+pub record LacksMemory (stage : Stage) (w : Work) (p : Owned) (result : Result PeerTurn NoMemory) (v : Work) (q : Owned) : Type 0 where
+  pub takes : (is_read_stage stage || is_some w.walk.kept) ≡ true
   pub refused : IsErr result
   pub work_is : v ≡ w
   pub parts_are : q ≡ p
@@ -224,7 +225,7 @@ pub record HasActed (life : FailedLife) (stage : Stage) (w : Work) (p : Owned) (
   pub acts : Acts life stage (record w { walk = walk }) p result v q
 
 abbrev pub GoesOn : FailedLife → Stage → Work → Owned → Result PeerTurn NoMemory → Work → Owned → Type 0
-GoesOn life stage w p result v q = HasGivenUp life w p result v q ⊎ (LacksMemory w p result v q ⊎ HasActed life stage w p result v q)
+GoesOn life stage w p result v q = HasGivenUp life w p result v q ⊎ (LacksMemory stage w p result v q ⊎ HasActed life stage w p result v q)
 
 abbrev pub NextAt : List (Member × Incarnation) → Phase → Work → Owned → Result PeerTurn NoMemory → Work → Owned → Type 0
 NextAt skip Find w p result v q = Makes (after_find (found_phase (first_open skip p.repo.lives)) w p) result v q

@@ -63,10 +63,14 @@ HasSweptAt Find p = Unit {0}
 HasSweptAt (Low life) p = Unit {0}
 HasSweptAt (At life stage) p = HasSwept life stage p
 
+-- the id of each entry is above 0
+abbrev pub AreAbove : Owned → Type 0
+AreAbove p = (s : StructNo) → AllByRecursion (λ (e : Entry). 0 < e.id.number) (structure_in s p.structures).entries
+
 -- the entries of each structure are in order of id, from 1 on
 pub record AreOrdered (p : Owned) : Type 0 where
   pub ordered : (s : StructNo) → AreInOrder (structure_in s p.structures).entries
-  pub above : (s : StructNo) → AllByRecursion (λ (e : Entry). 0 < e.id.number) (structure_in s p.structures).entries
+  pub above : AreAbove p
 
 -- A step that answers Resolved: no mark of the incarnation stands in an active structure, the number is that of the marks
 -- that the work took off, and the repository has the incarnation resolved.

@@ -39,7 +39,7 @@ ghost use Rattle.qsg_peer.specs.Steps.{NextPeer, first_walk, with_mark_off, with
 ghost use Rattle.qsg_peer.specs.Machine.{group_in, IsStep, is_of, IsOver, IsFollowed, Knows, AreClear, with_resolved_life};
 ghost use Rattle.qsg_peer.specs.Sweeping.{AreOrdered, HasSweptAt, HasResolved};
 ghost use Rattle.qsg_peer.specs.Leaving.{takes_off, LeavesRest, LeavesStructures};
-ghost use Rattle.qsg_peer.specs.Pace.{marks_above, left_of_peer, whole_peer, whole_of, HasFoundLife, HasNoMoreMarks};
+ghost use Rattle.qsg_peer.specs.Pace.{marks_above, left_of_peer, whole_peer, whole_of, HasFoundLife, HasNoMoreMarks, HasNoMoreAt};
 
 /// A step that isn't one of a settle leaves all structures; every step leaves members' storage, the objects and the
 /// history, and of the logs all but what reading does to a device.
@@ -98,10 +98,10 @@ pub fn a_step_lowers_what_is_left()
     ensures most { (life : FailedLife) (stage : Stage) (w : Work) (p : Owned) → w.phase ≡ At life stage → left_of_peer w p < whole_peer w.walk.left (marks_of life.member life.incarnation p.structures) }
 {}
 
-/// Where no more marks of any incarnation stand than before, no more steps are left to a work. That is so after a mark came
+/// Where no more marks of its incarnation stand than before, no more steps are left to a work. That is so after a mark came
 /// off, and of a list of entries after one was added or revised that has no mark of the incarnation then.
 pub fn fewer_marks_leave_fewer_steps()
-    ensures left { (w : Work) (p q : Owned) → ((life : FailedLife) → HasNoMoreMarks life p q) → ((m : Member) → (log_in m q.logs).writer.size ≡ (log_in m p.logs).writer.size) → left_of_peer w q ≤ left_of_peer w p }
+    ensures left { (w : Work) (p q : Owned) → HasNoMoreAt w.phase p q → ((m : Member) → (log_in m q.logs).writer.size ≡ (log_in m p.logs).writer.size) → left_of_peer w q ≤ left_of_peer w p }
     ensures off { (life : FailedLife) (connection : Connection) (found : MarkedEntry) (commits : Bool) (p : Owned) → HasStructure connection.structure p → HasNoMoreMarks life p (with_mark_off connection found commits p) }
     ensures added { (life : FailedLife) (id : EntryId) (entries : List Entry) (e : Entry) → names_member life.member life.incarnation e.mark ≡ false → marks_above life id (entries ++ e ∷ []) ≡ marks_above life id entries }
     ensures revised { (life : FailedLife) (id other : EntryId) (f : Entry → Option Entry) (entries : List Entry) → ((e x : Entry) → f e ≡ Some x → names_member life.member life.incarnation x.mark ≡ false) → marks_above life id (revise other f entries) ≤ marks_above life id entries }

@@ -1,13 +1,12 @@
 //! What the steps do to the parts of the group.
 
-ghost use Rattle.std.specs.Prelude.{◌≡◌, ◌<◌, ◌≤◌, ◌+◌, ◌^◌, min, length, None, Some, Option, IfOk, OnErr, IsErrOf};
+ghost use Rattle.std.specs.Prelude.{◌≡◌, ◌<◌, ◌≤◌, ◌+◌, ◌^◌, min, length, None, Some, Option, IfOk, OnErr};
 ghost use Rattle.qsg_num.specs.Seats.{member_number, structure_number, structure_at};
 ghost use Rattle.qsg_num.specs.Faults.{Rose};
 ghost use Rattle.qsg_lists.specs.Structures.{connect_answer};
 ghost use Rattle.qsg_repo.specs.Lives.{first_open};
 ghost use Rattle.qsg_manager.specs.Facilities.{structure_in};
 ghost use Rattle.qsg_logs.specs.Kept.{log_in};
-ghost use Rattle.qsg_logpage.specs.declared.read.ReadError.{ReadError};
 ghost use Rattle.qsg_parts.specs.Owned.{owned};
 ghost use Rattle.qsg_logs.specs.Reading.{IsFound};
 ghost use Rattle.qsg_walk.specs.Walks.{Walk as WalkSeen, after_read};
@@ -17,11 +16,10 @@ ghost use Rattle.qsg_peer.specs.Needs.{HasLog, HasStructure};
 ghost use Rattle.qsg_peer.specs.Steps.{found_phase, from_structure, after_structure, walking, first_walk, HasRead, HasKept, connected, searched, search_answer, counted, settled_stage, mark_answer, with_mark_off, with_resolved};
 
 use crate::phases::{FailedLife, Phase, Stage};
-use qsg_disk::Disk;
+use qsg_disk::{Disk, Failed};
 use qsg_lists::{Connection, Lost, Settled};
-use qsg_logpage::ReadError;
 use qsg_manager::MarkedEntry;
-use qsg_num::{EntryId, Names, StructNo};
+use qsg_num::{EntryId, Names, PAGE_BYTES, StructNo};
 use qsg_parts::Parts;
 use qsg_walk::Walk;
 use std::alloc::Global;
@@ -83,22 +81,23 @@ pub fn walking(count: usize, walk: &Walk) -> Stage
     }
 }
 
-/// Reads the next page of a walk over the log of a failed member, and keeps it.
+/// Reads the next page of a walk over the log of a failed member, into room for a page, and keeps it.
 pub fn read<D: Disk>(
-    alloc: Global,
     parts: &mut Parts<D>,
     of: FailedLife,
     walk: &mut Walk,
-) -> Result<(), ReadError>
+    room: Vec<u8>,
+) -> Result<(), Failed>
+    requires room { length room.items ≡ PAGE_BYTES }
     requires log { HasLog of.member (owned parts.old) }
     requires goes_on { 0 < walk.old.left }
     ensures read { HasRead of (owned parts.old) (owned parts.new) }
     ensures found { IfOk result (λ done. HasKept of walk.old.next walk.old (owned parts.old) walk.new) }
     ensures stays { OnErr result (walk.new ≡ walk.old) }
-    ensures failed { IsErrOf result ReadError.Failed → Rose (log_in of.member (owned parts.old).logs).faults (log_in of.member (owned parts.new).logs).faults }
+    ensures failed { OnErr result (Rose (log_in of.member (owned parts.old).logs).faults (log_in of.member (owned parts.new).logs).faults) }
 {
     let next = walk.next().unwrap();
-    let found = parts.logs.read_page(alloc, of.member, next)?;
+    let found = parts.logs.read_page(of.member, next, room)?;
     walk.keep(found);
     Ok(())
 }

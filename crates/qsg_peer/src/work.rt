@@ -1,12 +1,12 @@
 //! A peer's work in progress.
 
-ghost use Rattle.std.specs.Prelude.{◌≡◌, true, None, IfOk, OnErr};
+ghost use Rattle.std.specs.Prelude.{◌≡◌, true, length, None, Ok, IfOk, OnErr};
 ghost use Rattle.qsg_parts.specs.Owned.{owned};
 ghost use Rattle.qsg_peer.specs.declared.phases.Phase.TheVariants as phases;
 ghost use Rattle.qsg_peer.specs.declared.phases.PeerTurn.TheVariants as turns;
 ghost use Rattle.qsg_peer.specs.declared.phases.Stage.TheVariants as stages;
 ghost use Rattle.qsg_repo.specs.Lives.{first_open};
-ghost use Rattle.qsg_peer.specs.Needs.{HasLog, HasStructure, MayStepAt, MayStepOn, AreMembers, is_reading, takes_memory};
+ghost use Rattle.qsg_peer.specs.Needs.{HasLog, HasStructure, MayStepAt, MayStepOn, AreMembers, is_read_stage, is_reading, takes_memory};
 ghost use Rattle.qsg_peer.specs.Reading.{life_at};
 ghost use Rattle.qsg_peer.specs.Steps.{gave_up};
 
@@ -16,10 +16,10 @@ use crate::steps::{
 };
 use qsg_disk::Disk;
 use qsg_lists::Connection;
-use qsg_logpage::ReadError;
+use qsg_logpage::page_room;
 use qsg_logread::FeedError;
 use qsg_manager::MarkedEntry;
-use qsg_num::{LogWhy, Member, Names, PageNo};
+use qsg_num::{LogWhy, Member, Names, PAGE_BYTES, PageNo};
 use qsg_parts::Parts;
 use qsg_walk::Walk;
 use std::alloc::Global;
@@ -44,6 +44,20 @@ impl Model for PeerWork {
     ghost invariant = { λ w. IsSound w.phase w.walk };
 }
 
+/// Room for the page that is read at a stage. At another one there is none, and no memory is taken.
+fn room(alloc: Global, stage: Stage) -> Result<Vec<u8>, NoMemory>
+    ensures room { IfOk result (λ room. stage ≡ stages.Read → length room.items ≡ PAGE_BYTES) }
+    ensures memory { OnErr result (is_read_stage stage ≡ true) }
+{
+    match stage {
+        Stage::Read => match page_room(alloc) {
+            Ok(room) => Ok(room),
+            Err(_) => Err(NoMemory),
+        },
+        _ => Ok(Vec::new(alloc)),
+    }
+}
+
 /// The answer of work that is given up.
 fn gave_up(of: FailedLife, why: LogWhy) -> PeerTurn
     ensures { result ≡ gave_up of why }
@@ -57,7 +71,7 @@ fn gave_up(of: FailedLife, why: LogWhy) -> PeerTurn
 
 impl PeerWork {
     ghost use Rattle.qsg_peer.specs.Works.{IsSound, new_work};
-    ghost use Rattle.qsg_peer.specs.Steps.{found_phase, after_find, after_low, after_settle, Reads, Acts, NextPeer};
+    ghost use Rattle.qsg_peer.specs.Steps.{found_phase, after_find, after_low, after_settle, Reads, Acts, GoesOn, NextPeer};
 
     /// The work of a member's system task, before its first step. Takes no memory.
     pub fn begin(alloc: Global, member: Member) -> PeerWork
@@ -79,7 +93,8 @@ impl PeerWork {
     }
 
     /// Makes the next step. Incarnations in `skip` aren't worked on: the task has given them up. A step that ends the
-    /// work leaves it as it was; it isn't stepped again. Only a step that reads a page or feeds one takes memory.
+    /// work leaves it as it was; it isn't stepped again. Only a step that reads a page or feeds one takes memory; one
+    /// that lacks memory changes nothing.
     pub fn step<D: Disk>(
         &mut self,
         alloc: Global,
@@ -91,6 +106,7 @@ impl PeerWork {
         ensures member { self.new.member ≡ self.old.member }
         ensures ready { AreMembers (owned parts.old) → IfOk result (λ turn. turn ≡ turns.More → MayStepAt self.new.phase (owned parts.new)) }
         ensures memory { OnErr result (takes_memory self.old ≡ true) }
+        ensures unmade { OnErr result ((self.new ≡ self.old) × (owned parts.new ≡ owned parts.old)) }
     {
         self.make(alloc, parts, skip)
     }
@@ -109,11 +125,28 @@ impl PeerWork {
         match self.phase {
             Phase::Find => Ok(self.find(parts, skip)),
             Phase::Low(of) => Ok(self.low(alloc, parts, of)),
-            Phase::At { of, stage } => match self.walk.feed() {
-                Ok(_) => self.act(alloc, parts, of, stage),
-                Err(FeedError::Fault(why)) => Ok(gave_up(of, why)),
-                Err(FeedError::NoMemory) => Err(NoMemory),
-            },
+            Phase::At { of, stage } => self.go_on(alloc, parts, of, stage),
+        }
+    }
+
+    /// Feeds the page that is kept, if one is, and acts. Room for a page that is read then is made first.
+    fn go_on<D: Disk>(
+        &mut self,
+        alloc: Global,
+        parts: &mut Parts<D>,
+        of: FailedLife,
+        stage: Stage,
+    ) -> Result<PeerTurn, NoMemory>
+        requires may { MayStepOn of stage (owned parts.old) }
+        requires phase { self.old.phase ≡ phases.At of stage }
+        ensures next { GoesOn of stage self.old (owned parts.old) result self.new (owned parts.new) }
+        ensures member { self.new.member ≡ self.old.member }
+    {
+        let room = room(alloc, stage)?;
+        match self.walk.feed() {
+            Ok(_) => Ok(self.act(parts, of, stage, room)),
+            Err(FeedError::Fault(why)) => Ok(gave_up(of, why)),
+            Err(FeedError::NoMemory) => Err(NoMemory),
         }
     }
 
@@ -143,66 +176,62 @@ impl PeerWork {
         PeerTurn::More
     }
 
-    /// A step's own action, with no page kept.
+    /// A step's own action, with no page kept and with room for a page that it reads.
     fn act<D: Disk>(
         &mut self,
-        alloc: Global,
         parts: &mut Parts<D>,
         of: FailedLife,
         stage: Stage,
-    ) -> Result<PeerTurn, NoMemory>
+        room: Vec<u8>,
+    ) -> PeerTurn
         requires may { MayStepOn of stage (owned parts.old) }
         requires phase { self.old.phase ≡ phases.At of stage }
         requires fed { self.old.walk.kept ≡ None }
-        ensures acts { Acts of stage self.old (owned parts.old) result self.new (owned parts.new) }
+        requires room { stage ≡ stages.Read → length room.items ≡ PAGE_BYTES }
+        ensures acts { Acts of stage self.old (owned parts.old) (Ok result) self.new (owned parts.new) }
         ensures member { self.new.member ≡ self.old.member }
     {
         match stage {
-            Stage::Read => self.read(alloc, parts, of),
+            Stage::Read => self.read(parts, of, room),
             Stage::Connect(structure) => {
                 let stage = connect(parts, structure);
                 self.phase = Phase::At { of, stage };
-                Ok(PeerTurn::More)
+                PeerTurn::More
             }
             Stage::Search { connection, after } => {
                 let stage = search(parts, of, connection, after);
                 self.phase = Phase::At { of, stage };
-                Ok(PeerTurn::More)
+                PeerTurn::More
             }
-            Stage::Settle { connection, found } => Ok(self.settle(parts, of, connection, found)),
+            Stage::Settle { connection, found } => self.settle(parts, of, connection, found),
             Stage::Resolve => {
                 resolve(parts, of);
-                Ok(PeerTurn::Resolved {
+                PeerTurn::Resolved {
                     member: of.member,
                     incarnation: of.incarnation,
                     settled: self.settled,
-                })
+                }
             }
         }
     }
 
     /// Reads the next page of the log.
-    fn read<D: Disk>(
-        &mut self,
-        alloc: Global,
-        parts: &mut Parts<D>,
-        of: FailedLife,
-    ) -> Result<PeerTurn, NoMemory>
+    fn read<D: Disk>(&mut self, parts: &mut Parts<D>, of: FailedLife, room: Vec<u8>) -> PeerTurn
+        requires room { length room.items ≡ PAGE_BYTES }
         requires log { HasLog of.member (owned parts.old) }
         requires phase { self.old.phase ≡ phases.At of stages.Read }
         ensures reads { Reads of self.old (owned parts.old) result self.new (owned parts.new) }
         ensures member { self.new.member ≡ self.old.member }
     {
-        match read(alloc, parts, of, &mut self.walk) {
+        match read(parts, of, &mut self.walk, room) {
             Ok(()) => {
                 self.phase = Phase::At {
                     of,
                     stage: walking(parts.structures.len(), &self.walk),
                 };
-                Ok(PeerTurn::More)
+                PeerTurn::More
             }
-            Err(ReadError::Failed) => Ok(gave_up(of, LogWhy::Device)),
-            Err(ReadError::NoMemory) => Err(NoMemory),
+            Err(_) => gave_up(of, LogWhy::Device),
         }
     }
 

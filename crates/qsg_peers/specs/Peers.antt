@@ -70,12 +70,7 @@ pub record IsMadeStep (at : ℕ) (before : Work) (p : Owned) (off : Option Faile
   pub after : new ≡ after_turn at turn work old
   pub taken : off ≡ taken_from before work
 
--- a step for which memory was wanting
-pub record IsUnmadeStep (before : Work) (p : Owned) (e : NoMemory) (old new : Peer) (q : Owned) : Type 0 where
-  pub work : Work
-  pub next : NextPeer old.given_up before p (Err e) work q
-  pub after : new ≡ in_hand work old
-
+-- a step for which memory was wanting changes nothing
 abbrev pub Steps : ℕ → Work → Owned → Result (Option FailedLife) NoMemory → Peer → Peer → Owned → Type 0
 Steps at before p (Ok off) old new q = IsMadeStep at before p off old new q
-Steps at before p (Err e) old new q = IsUnmadeStep before p e old new q
+Steps at before p (Err e) old new q = (new ≡ old) × (q ≡ p)

@@ -1,11 +1,11 @@
 //! The system task of a member.
 
-ghost use Rattle.std.specs.Prelude.{◌≡◌, ◌<◌, ◌++◌, ◌∷◌, [], true, IfOk, OnOk, OnErr, Some, IsSome, vec_len, vec_capacity};
+ghost use Rattle.std.specs.Prelude.{◌≡◌, ◌<◌, ◌++◌, ◌∷◌, [], true, IfOk, IfSome, OnOk, OnErr, Some, IsSome, vec_len, vec_capacity};
 ghost use Rattle.std.specs.Option.{option_and_then};
 ghost use Rattle.qsg_parts.specs.Owned.{owned};
 ghost use Rattle.qsg_peer.specs.Needs.{MayStepAt, takes_memory};
 ghost use Rattle.qsg_peer.specs.Reading.{reading_of};
-ghost use Rattle.qsg_peer.specs.Works.{Work, new_work};
+ghost use Rattle.qsg_peer.specs.Works.{Work, IsSound, new_work};
 ghost use Rattle.qsg_peers.specs.Peers.{new_peer, ended_peer, in_hand, told, after_turn, Steps};
 
 use qsg_disk::Disk;
@@ -55,6 +55,15 @@ impl Peer {
         }
     }
 
+    /// What its work keeps, if it has one in hand.
+    pub fn kept(&self)
+        ensures { IfSome self.now.work (λ work. IsSound work.phase work.walk) }
+    {
+        if let Some(work) = &self.work {
+            work.kept();
+        }
+    }
+
     /// The member whose log it is in the midst of reading.
     pub fn reading(&self) -> Option<Member>
         ensures { result ≡ option_and_then reading_of self.now.work }
@@ -79,7 +88,8 @@ impl Peer {
         Ok(())
     }
 
-    /// Makes a step of the work in hand, when the history has `at` items. The incarnation of which it took a mark off.
+    /// Makes a step of the work in hand, when the history has `at` items. The incarnation of which it took a mark off. A
+    /// step that lacks memory changes nothing.
     pub fn step<D: Disk>(
         &mut self,
         alloc: Global,
@@ -91,6 +101,7 @@ impl Peer {
         requires may { (work : Work) → self.old.work ≡ Some work → MayStepAt work.phase (owned parts.old) }
         ensures steps { (work : Work) → self.old.work ≡ Some work → Steps at work (owned parts.old) result (peer_in self.old) (peer_in self.new) (owned parts.new) }
         ensures memory { (work : Work) → self.old.work ≡ Some work → OnErr result (takes_memory work ≡ true) }
+        ensures unmade { OnErr result ((peer_in self.new ≡ peer_in self.old) × (owned parts.new ≡ owned parts.old)) }
         ensures ready { IsReady self.new }
     {
         let Some(work) = &mut self.work else {

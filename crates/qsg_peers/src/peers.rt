@@ -1,11 +1,11 @@
 //! The system tasks of all members.
 
-ghost use Rattle.std.specs.Prelude.{◌≡◌, true, length, replicate, IfOk, OnOk, OnErr, Some, IsSome, is_some};
+ghost use Rattle.std.specs.Prelude.{◌≡◌, true, length, replicate, IfOk, IfSome, OnOk, OnErr, Some, IsSome, is_some};
 ghost use Rattle.std.specs.Option.{option_and_then};
 ghost use Rattle.qsg_parts.specs.Owned.{owned};
 ghost use Rattle.qsg_peer.specs.Needs.{MayStepAt, takes_memory};
 ghost use Rattle.qsg_peer.specs.Reading.{reading_of};
-ghost use Rattle.qsg_peer.specs.Works.{Work, new_work};
+ghost use Rattle.qsg_peer.specs.Works.{Work, IsSound, new_work};
 ghost use Rattle.qsg_peers.specs.Peers.{new_peer, peer_of, with_peer, ended_peer, in_hand, Steps};
 
 use crate::peer::Peer;
@@ -55,6 +55,13 @@ impl Peers {
         let _items = &self.items;
     }
 
+    /// What the work of a member's system task keeps, if it has one in hand.
+    pub fn work_is_kept(&self, member: Member)
+        ensures { IfSome (peer_of member self.now).work (λ work. IsSound work.phase work.walk) }
+    {
+        self.items[member.index()].kept();
+    }
+
     /// The answers of a member's system task.
     pub fn answers(&self, member: Member) -> &[Answer]
         ensures { result.now ≡ (peer_of member self.now).answers }
@@ -91,7 +98,8 @@ impl Peers {
         self.items[member.index()].begin(alloc, member)
     }
 
-    /// Makes a step of the work in hand, when the history has `at` items. The incarnation of which it took a mark off.
+    /// Makes a step of the work in hand, when the history has `at` items. The incarnation of which it took a mark off. A
+    /// step that lacks memory changes nothing.
     pub fn step<D: Disk>(
         &mut self,
         alloc: Global,
@@ -104,6 +112,7 @@ impl Peers {
         ensures steps { (work : Work) → (peer_of member self.old).work ≡ Some work → Steps at work (owned parts.old) result (peer_of member self.old) (peer_of member self.new) (owned parts.new) }
         ensures others { self.new ≡ with_peer member (peer_of member self.new) self.old }
         ensures memory { (work : Work) → (peer_of member self.old).work ≡ Some work → OnErr result (takes_memory work ≡ true) }
+        ensures unmade { OnErr result ((self.new ≡ self.old) × (owned parts.new ≡ owned parts.old)) }
     {
         self.items[member.index()].step(alloc, parts, at)
     }

@@ -60,7 +60,7 @@ act_same : (phase : Phase) (w : Work) (p : Owned) (result : Result StartTurn NoM
 act_same Check w p result v q is acts = absurd (cc is)
 act_same Low w p result v q is acts = absurd (cc is)
 act_same Read w p (Ok turn) v q is acts = read_same w.member p q acts.0
-act_same Read w p (Err e) v q is acts = read_same w.member p q acts.0
+act_same Read w p (Err e) v q is acts = absurd acts
 act_same (Begin page) w p (Ok turn) v q is acts = begun_same page w p turn v q acts
 act_same (Begin page) w p (Err e) v q is acts = absurd acts
 
@@ -71,19 +71,19 @@ on_same w p result v q is (inr (inr acted)) = act_same w.phase (record w { walk 
 
 -- ---- the walk goes on
 
-read_walk : (first : ℕ) (w : Work) (p : Owned) (result : Result StartTurn NoMemory) (v : Work) (q : Owned) → 0 < w.walk.left → w.walk.kept ≡ None → Reads w p result v q → (log_in w.member p.logs).tells ≡ true
+read_walk : (first : ℕ) (w : Work) (p : Owned) (turn : StartTurn) (v : Work) (q : Owned) → 0 < w.walk.left → w.walk.kept ≡ None → Reads w p turn v q → (log_in w.member p.logs).tells ≡ true
     → IsFollowed w.member first p w.walk → IsFollowed w.member first p v.walk
-read_walk first w p (Ok turn) v q goes none (has, inl failed) tells follows = subst (λ (x : Work). IsFollowed w.member first p x.walk) (sym failed.work_is) follows
-read_walk first w p (Ok turn) v q goes none (has, inr found) tells follows =
+read_walk first w p turn v q goes none (has, inl failed) tells follows = subst (λ (x : Work). IsFollowed w.member first p x.walk) (sym failed.work_is) follows
+read_walk first w p turn v q goes none (has, inr found) tells follows =
     subst (λ (x : Work). IsFollowed w.member first p x.walk) (sym found.work_is)
     (read_one first (log_in w.member p.logs).writer.size (log_in w.member p.logs).bytes w.walk found.found follows none goes (found.page.page tells))
-read_walk first w p (Err e) v q goes none reads tells follows = subst (λ (x : Work). IsFollowed w.member first p x.walk) (sym reads.1) follows
 
 act_walk : (phase : Phase) (first : ℕ) (w : Work) (p : Owned) (result : Result StartTurn NoMemory) (v : Work) (q : Owned) → walks phase ≡ true → (phase ≡ Read → 0 < w.walk.left) → w.walk.kept ≡ None → Acts phase w p result v q
     → (log_in w.member p.logs).tells ≡ true → IsFollowed w.member first p w.walk → IsFollowed w.member first p v.walk
 act_walk Check first w p result v q is goes none acts tells follows = absurd (cc is)
 act_walk Low first w p result v q is goes none acts tells follows = absurd (cc is)
-act_walk Read first w p result v q is goes none acts tells follows = read_walk first w p result v q (goes refl) none acts tells follows
+act_walk Read first w p (Ok turn) v q is goes none acts tells follows = read_walk first w p turn v q (goes refl) none acts tells follows
+act_walk Read first w p (Err e) v q is goes none acts tells follows = absurd acts
 act_walk (Begin page) first w p (Ok turn) v q is goes none acts tells follows = subst (IsFollowed w.member first p) (sym (ap (λ (n : Next). n.work.walk) acts)) follows
 act_walk (Begin page) first w p (Err e) v q is goes none acts tells follows = absurd acts
 

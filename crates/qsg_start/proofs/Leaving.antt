@@ -38,7 +38,7 @@ module _ {A : Type 0} (look : Owned → A) (p : Owned) where
   act_leaves Low w (Ok turn) v q leaves acts = ap look (parts_are (after_low w p) turn v q acts)
   act_leaves Low w (Err e) v q leaves acts = absurd acts
   act_leaves Read w (Ok turn) v q leaves acts = ap look acts.0.others ∙ leaves.read (log_in w.member q.logs)
-  act_leaves Read w (Err e) v q leaves acts = ap look acts.0.others ∙ leaves.read (log_in w.member q.logs)
+  act_leaves Read w (Err e) v q leaves acts = absurd acts
   act_leaves (Begin page) w (Ok turn) v q leaves acts = ap look (parts_are (after_begin page w p) turn v q acts) ∙ leaves.begun page
   act_leaves (Begin page) w (Err e) v q leaves acts = absurd acts
 

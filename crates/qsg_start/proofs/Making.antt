@@ -1,40 +1,57 @@
--- the last step, by what a feed of the page that was kept answers
-use Rattle.std.proofs.Common.{◌≡◌, inl, inr, List, Result, Ok, refl, sym, subst}
-use Rattle.std.specs.Prelude.{IsSome, IsErr}
+-- a step that goes on, by what a feed of the page that was kept answers
+use Rattle.std.proofs.Common.{◌≡◌, inl, inr, ◌||◌, Bool, true, false, List, Option, Some, None, Result, Ok, refl, sym, ap, subst}
+use Rattle.std.specs.Prelude.{IsSome, is_some, IsErr}
 use Rattle.qsg_logread.specs.declared.fault.FeedError.{FeedError}
 use Rattle.qsg_logread.specs.declared.fault.FeedError.TheVariants as errors
-use Rattle.qsg_num.specs.declared.ids.PageNo.{PageNo}
 use Rattle.qsg_num.specs.declared.words.LogWhy.{LogWhy}
 use Rattle.qsg_logrec.specs.declared.record.LogRecord.{LogRecord}
 use Rattle.qsg_parts.specs.Owned.{Owned}
+use Rattle.qsg_walk.specs.declared.walk.KeptPage.{KeptPage}
 use Rattle.qsg_walk.specs.Walks.{Walk, Feeds, IsBad}
 use Rattle.qsg_start.specs.declared.phases.NoMemory.{NoMemory}
 use Rattle.qsg_start.specs.declared.phases.StartTurn.{StartTurn}
 use Rattle.qsg_start.specs.declared.phases.StartTurn.TheVariants.{Fault}
 use Rattle.qsg_start.specs.declared.phases.Phase.{Phase}
-use Rattle.qsg_start.specs.declared.phases.Phase.TheVariants.{Begin}
+use Rattle.qsg_start.specs.declared.phases.Phase.TheVariants.{Check, Low, Read, Begin}
 use Rattle.qsg_start.specs.Works.{Work}
+use Rattle.qsg_start.specs.Needs.{is_reading, takes_memory}
 use Rattle.qsg_start.specs.Steps.{Acts, GoesOn, NextAt, NextStart}
+use Rattle.qsg_start.specs.Following.{walks}
 
-pub at_begin : (page : PageNo) (w : Work) (p : Owned) (result : Result StartTurn NoMemory) (v : Work) (q : Owned) → w.phase ≡ Begin page → GoesOn w p result v q → NextStart w p result v q
-at_begin page w p result v q is goes = subst (λ (x : Phase). NextAt x w p result v q) (sym is) goes
+goes_at : (phase : Phase) (w : Work) (p : Owned) (result : Result StartTurn NoMemory) (v : Work) (q : Owned) → walks phase ≡ true → GoesOn w p result v q → NextAt phase w p result v q
+goes_at Check w p result v q is goes = absurd (cc is)
+goes_at Low w p result v q is goes = absurd (cc is)
+goes_at Read w p result v q is goes = goes
+goes_at (Begin page) w p result v q is goes = goes
 
-pub begun : (page : PageNo) (w : Work) (p : Owned) (walk : Walk) (records : List LogRecord) (result : Result StartTurn NoMemory) (v : Work) (q : Owned) → w.phase ≡ Begin page → Feeds w.walk records walk
-    → Acts (Begin page) (record w { walk = walk }) p result v q → NextStart w p result v q
-begun page w p walk records result v q is fed acts = at_begin page w p result v q is
+goes_on : (phase : Phase) (w : Work) (p : Owned) (result : Result StartTurn NoMemory) (v : Work) (q : Owned) → walks phase ≡ true → w.phase ≡ phase → GoesOn w p result v q → NextStart w p result v q
+goes_on phase w p result v q walked is goes = subst (λ (x : Phase). NextAt x w p result v q) (sym is) (goes_at phase w p result v q walked goes)
+
+pub acted : (phase : Phase) (w : Work) (p : Owned) (walk : Walk) (records : List LogRecord) (result : Result StartTurn NoMemory) (v : Work) (q : Owned) → walks phase ≡ true → w.phase ≡ phase → Feeds w.walk records walk
+    → Acts phase (record w { walk = walk }) p result v q → NextStart w p result v q
+acted phase w p walk records result v q walked is fed acts = goes_on phase w p result v q walked is
     (inr (inr (record { walk = walk; records = records; fed = fed; acts = subst (λ (x : Phase). Acts x (record w { walk = walk }) p result v q) (sym is) acts })))
 
-pub bad : (page : PageNo) (w : Work) (p : Owned) (why : LogWhy) (result : Result StartTurn NoMemory) (v : Work) (q : Owned) → w.phase ≡ Begin page → IsBad w.walk why → result ≡ Ok (Fault why) → v ≡ w → q ≡ p → NextStart w p result v q
-bad page w p why result v q is refusal turn work parts = at_begin page w p result v q is (inl (record { why = why; bad = refusal; turn_is = turn; work_is = work; parts_are = parts }))
+bad : (phase : Phase) (w : Work) (p : Owned) (why : LogWhy) (result : Result StartTurn NoMemory) (v : Work) (q : Owned) → walks phase ≡ true → w.phase ≡ phase → IsBad w.walk why → result ≡ Ok (Fault why) → v ≡ w → q ≡ p → NextStart w p result v q
+bad phase w p why result v q walked is refusal turn work parts = goes_on phase w p result v q walked is (inl (record { why = why; bad = refusal; turn_is = turn; work_is = work; parts_are = parts }))
 
-pub lacking : (page : PageNo) (w : Work) (p : Owned) (result : Result StartTurn NoMemory) (v : Work) (q : Owned) → w.phase ≡ Begin page → IsSome w.walk.kept → IsErr result → v ≡ w → q ≡ p → NextStart w p result v q
-lacking page w p result v q is kept refused work parts = at_begin page w p result v q is (inr (inl (record { kept = kept; refused = refused; work_is = work; parts_are = parts })))
+or_some : (reading : Bool) (kept : Option KeptPage) → IsSome kept → (reading || is_some kept) ≡ true
+or_some true kept some = refl
+or_some false None some = absurd (cc some)
+or_some false (Some page) some = refl
+
+lacking : (phase : Phase) (w : Work) (p : Owned) (result : Result StartTurn NoMemory) (v : Work) (q : Owned) → walks phase ≡ true → w.phase ≡ phase → takes_memory w ≡ true → IsErr result → v ≡ w → q ≡ p → NextStart w p result v q
+lacking phase w p result v q walked is takes refused work parts = goes_on phase w p result v q walked is (inr (inl (record { takes = takes; refused = refused; work_is = work; parts_are = parts })))
+
+-- no room was made for the page that would have been read
+pub roomless : (w : Work) (p : Owned) (result : Result StartTurn NoMemory) (v : Work) (q : Owned) → w.phase ≡ Read → IsErr result → v ≡ w → q ≡ p → NextStart w p result v q
+roomless w p result v q is refused work parts = lacking Read w p result v q refl is (ap (λ (x : Phase). is_reading x || is_some w.walk.kept) is) refused work parts
 
 -- a refused page ends the step, or takes memory
-pub refusing : (page : PageNo) (w : Work) (p : Owned) (refused : FeedError) (result : Result StartTurn NoMemory) (v : Work) (q : Owned) → w.phase ≡ Begin page → ((why : LogWhy) → refused ≡ errors.Fault why → IsBad w.walk why) → IsSome w.walk.kept
+pub refusing : (phase : Phase) (w : Work) (p : Owned) (refused : FeedError) (result : Result StartTurn NoMemory) (v : Work) (q : Owned) → walks phase ≡ true → w.phase ≡ phase → ((why : LogWhy) → refused ≡ errors.Fault why → IsBad w.walk why) → IsSome w.walk.kept
     → ((why : LogWhy) → refused ≡ errors.Fault why → result ≡ Ok (Fault why)) → (refused ≡ errors.NoMemory → IsErr result) → v ≡ w → q ≡ p → NextStart w p result v q
-refusing page w p (errors.Fault why) result v q is bads kept faults lacks work parts = bad page w p why result v q is (bads why refl) (faults why refl) work parts
-refusing page w p errors.NoMemory result v q is bads kept faults lacks work parts = lacking page w p result v q is kept (lacks refl) work parts
+refusing phase w p (errors.Fault why) result v q walked is bads kept faults lacks work parts = bad phase w p why result v q walked is (bads why refl) (faults why refl) work parts
+refusing phase w p errors.NoMemory result v q walked is bads kept faults lacks work parts = lacking phase w p result v q walked is (or_some (is_reading w.phase) w.walk.kept kept) (lacks refl) work parts
 
 -- the same of what is equal to it
 pub carried : (w x : Work) (p : Owned) (result answer : Result StartTurn NoMemory) (v y : Work) (q r : Owned) → w ≡ x → answer ≡ result → y ≡ v → r ≡ q → NextStart w p result v q → NextStart x p answer y r

@@ -1,6 +1,6 @@
 -- what steps need, and what all but the last one leave of it
-use Rattle.std.proofs.Common.{◌≡◌, inl, inr, ℕ, zero, suc, ◌-◌, ◌||◌, Bool, true, false, List, [], ◌∷◌, length, Option, Some, None, Result, Ok, Err, refl, sym, ap, subst, ◌∙◌, get_or, arith}
-use Rattle.std.specs.Prelude.{slice_set, IfOk, OnErr, IsSome, is_some}
+use Rattle.std.proofs.Common.{◌≡◌, inl, inr, ℕ, zero, suc, ◌-◌, true, false, List, [], ◌∷◌, length, Result, Ok, Err, refl, sym, ap, subst, ◌∙◌, get_or, arith}
+use Rattle.std.specs.Prelude.{slice_set, IfOk, OnErr}
 use Rattle.std.proofs.lemmas.List.{length-set}
 use Rattle.qsg_num.specs.declared.seats.Member.{Member}
 use Rattle.qsg_num.specs.Seats.{member_number}
@@ -9,15 +9,14 @@ use Rattle.qsg_manager.specs.Storage.{manager_in}
 use Rattle.qsg_logs.specs.Kept.{KeptLog, no_log, log_in}
 use Rattle.qsg_logs.specs.Reading.{IsRead}
 use Rattle.qsg_parts.specs.Owned.{Owned, HasMember}
-use Rattle.qsg_walk.specs.declared.walk.KeptPage.{KeptPage}
 use Rattle.qsg_start.specs.declared.phases.NoMemory.{NoMemory}
 use Rattle.qsg_start.specs.declared.phases.StartTurn.{StartTurn}
 use Rattle.qsg_start.specs.declared.phases.StartTurn.TheVariants.{More}
 use Rattle.qsg_start.specs.declared.phases.Phase.{Phase}
 use Rattle.qsg_start.specs.declared.phases.Phase.TheVariants.{Check, Low, Read, Begin}
 use Rattle.qsg_start.specs.Works.{Work}
-use Rattle.qsg_start.specs.Needs.{MayStart, MayStepAt, MayStep, is_reading, takes_memory}
-use Rattle.qsg_start.specs.Steps.{Next, after_check, after_low, after_begin, HasRead, Acts, GoesOn, NextAt, NextStart, is_start, starts}
+use Rattle.qsg_start.specs.Needs.{MayStart, MayStepAt, MayStep, takes_memory}
+use Rattle.qsg_start.specs.Steps.{Next, after_check, after_low, after_begin, HasRead, Acts, LacksMemory, GoesOn, NextAt, NextStart, is_start, starts}
 use Rattle.qsg_start.proofs.Leaving.{parts_are, checked_parts}
 
 -- ---- what a step needs
@@ -70,7 +69,7 @@ act_reads Check w p (Err e) v q acts other = absurd acts
 act_reads Low w p (Ok turn) v q acts other = all_same w.member p q (parts_are (after_low w p) turn v q acts)
 act_reads Low w p (Err e) v q acts other = absurd acts
 act_reads Read w p (Ok turn) v q acts other = acts.0
-act_reads Read w p (Err e) v q acts other = acts.0
+act_reads Read w p (Err e) v q acts other = absurd acts
 act_reads (Begin page) w p (Ok turn) v q acts other = let yes = begun_starts (after_begin page w p) turn v q acts refl in absurd (cc (other, yes))
 act_reads (Begin page) w p (Err e) v q acts other = absurd acts
 
@@ -95,32 +94,28 @@ ready_after w p (Err e) v q same next may = tt
 
 -- ---- memory
 
-or_some : (reading : Bool) (kept : Option KeptPage) → IsSome kept → (reading || is_some kept) ≡ true
-or_some true kept some = refl
-or_some false None some = absurd (cc some)
-or_some false (Some page) some = refl
+act_unmade : (phase : Phase) (w : Work) (p : Owned) (e : NoMemory) (v : Work) (q : Owned) → Acts phase w p (Err e) v q → ⊥
+act_unmade Check w p e v q acts = acts
+act_unmade Low w p e v q acts = acts
+act_unmade Read w p e v q acts = acts
+act_unmade (Begin page) w p e v q acts = acts
 
-or_reading : (reading : Bool) (kept : Bool) → reading ≡ true → (reading || kept) ≡ true
-or_reading true kept is = refl
-or_reading false kept is = absurd (cc is)
+on_unmade : (w : Work) (p : Owned) (e : NoMemory) (v : Work) (q : Owned) → GoesOn w p (Err e) v q → LacksMemory w p (Err e) v q
+on_unmade w p e v q (inl given) = absurd (cc given.turn_is)
+on_unmade w p e v q (inr (inl lacks)) = lacks
+on_unmade w p e v q (inr (inr acted)) = absurd (act_unmade w.phase (record w { walk = acted.walk }) p e v q acted.acts)
 
-act_memory : (phase : Phase) (w : Work) (p : Owned) (e : NoMemory) (v : Work) (q : Owned) → Acts phase w p (Err e) v q → is_reading phase ≡ true
-act_memory Check w p e v q acts = absurd acts
-act_memory Low w p e v q acts = absurd acts
-act_memory Read w p e v q acts = refl
-act_memory (Begin page) w p e v q acts = absurd acts
-
-on_memory : (w : Work) (p : Owned) (e : NoMemory) (v : Work) (q : Owned) → GoesOn w p (Err e) v q → takes_memory w ≡ true
-on_memory w p e v q (inl given) = absurd (cc given.turn_is)
-on_memory w p e v q (inr (inl lacks)) = or_some (is_reading w.phase) w.walk.kept lacks.kept
-on_memory w p e v q (inr (inr acted)) = or_reading (is_reading w.phase) (is_some w.walk.kept) (act_memory w.phase (record w { walk = acted.walk }) p e v q acted.acts)
-
-memory_at : (phase : Phase) (w : Work) (p : Owned) (e : NoMemory) (v : Work) (q : Owned) → NextAt phase w p (Err e) v q → takes_memory w ≡ true
-memory_at Check w p e v q next = absurd next
-memory_at Low w p e v q next = absurd next
-memory_at Read w p e v q next = on_memory w p e v q next
-memory_at (Begin page) w p e v q next = on_memory w p e v q next
+unmade_at : (phase : Phase) (w : Work) (p : Owned) (e : NoMemory) (v : Work) (q : Owned) → NextAt phase w p (Err e) v q → LacksMemory w p (Err e) v q
+unmade_at Check w p e v q next = absurd next
+unmade_at Low w p e v q next = absurd next
+unmade_at Read w p e v q next = on_unmade w p e v q next
+unmade_at (Begin page) w p e v q next = on_unmade w p e v q next
 
 pub memory_taken : (w : Work) (p : Owned) (result : Result StartTurn NoMemory) (v : Work) (q : Owned) → NextStart w p result v q → OnErr result (takes_memory w ≡ true)
 memory_taken w p (Ok turn) v q next = tt
-memory_taken w p (Err e) v q next = memory_at w.phase w p e v q next
+memory_taken w p (Err e) v q next = (unmade_at w.phase w p e v q next).takes
+
+-- a step that lacks memory changes nothing
+pub unmade : (w : Work) (p : Owned) (result : Result StartTurn NoMemory) (v : Work) (q : Owned) → NextStart w p result v q → OnErr result ((v ≡ w) × (q ≡ p))
+unmade w p (Ok turn) v q next = tt
+unmade w p (Err e) v q next = let lacks = unmade_at w.phase w p e v q next in (lacks.work_is, lacks.parts_are)

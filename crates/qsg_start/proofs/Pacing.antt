@@ -52,7 +52,7 @@ low_lowers w p v q small is =
     let most = left_walking (first_walk w.member p) in
     omega (arith, same, most, small)
 
-reads_lower : (w : Work) (p : Owned) (v : Work) (q : Owned) → 0 < w.walk.left → Reads w p (Ok More) v q → left_of_start v < w.walk.left + 1
+reads_lower : (w : Work) (p : Owned) (v : Work) (q : Owned) → 0 < w.walk.left → Reads w p More v q → left_of_start v < w.walk.left + 1
 reads_lower w p v q goes (has, inl failed) = absurd (cc failed.turn_is)
 reads_lower w p v q goes (has, inr found) =
     let same = ap left_of_start found.work_is in

@@ -1,5 +1,5 @@
 -- what each step of a START does, exactly
-use Rattle.std.specs.Prelude.{ℕ, Bool, true, false, ◌≡◌, ◌⊎◌, ◌==◌, List, Option, IsSome, IsErr, Result, Ok, Err, if◌then◌else◌}
+use Rattle.std.specs.Prelude.{ℕ, Bool, true, false, ◌≡◌, ◌⊎◌, ◌==◌, List, Option, IsErr, Result, Ok, Err, if◌then◌else◌}
 use Rattle.qsg_num.specs.declared.seats.Member.{Member}
 use Rattle.qsg_num.specs.declared.ids.PageNo.{PageNo}
 use Rattle.qsg_num.specs.declared.words.LogWhy.{LogWhy}
@@ -21,6 +21,7 @@ use Rattle.qsg_start.specs.declared.phases.StartTurn.TheVariants.{More, Up, Star
 use Rattle.qsg_start.specs.declared.phases.Phase.{Phase}
 use Rattle.qsg_start.specs.declared.phases.Phase.TheVariants.{Check, Low, Read, Begin}
 use Rattle.qsg_start.specs.Works.{Work}
+use Rattle.qsg_start.specs.Needs.{takes_memory}
 
 -- how a step ended, and what it left
 pub record Next : Type 0 where
@@ -72,9 +73,8 @@ pub record HasFound (w : Work) (p : Owned) (turn : StartTurn) (v : Work) : Type 
   pub turn_is : turn ≡ More
   pub work_is : v ≡ with_walk (after_read found w.walk) w
 
-abbrev pub Reads : Work → Owned → Result StartTurn NoMemory → Work → Owned → Type 0
-Reads w p (Ok turn) v q = HasRead w.member p q × (HasFailed w p turn v q ⊎ HasFound w p turn v)
-Reads w p (Err e) v q = HasRead w.member p q × (v ≡ w)
+abbrev pub Reads : Work → Owned → StartTurn → Work → Owned → Type 0
+Reads w p turn v q = HasRead w.member p q × (HasFailed w p turn v q ⊎ HasFound w p turn v)
 
 -- ---- the member comes up
 
@@ -91,16 +91,17 @@ after_begin page w p = record { turn = Started (next_incarnation w.member p.repo
 
 -- ---- a step, by the phase and by how it ended
 
--- a step that takes no memory leaves exactly this
+-- an action that takes no memory leaves exactly this
 abbrev pub Makes : Next → Result StartTurn NoMemory → Work → Owned → Type 0
 Makes next (Ok turn) v q = record { turn = turn; work = v; parts = q } ≡ next
 Makes next (Err e) v q = ⊥
 
--- a step's own action, with no page kept
+-- a step's own action, with no page kept and with room for a page that it reads
 abbrev pub Acts : Phase → Work → Owned → Result StartTurn NoMemory → Work → Owned → Type 0
 Acts Check w p result v q = Makes (after_check w p) result v q
 Acts Low w p result v q = Makes (after_low w p) result v q
-Acts Read w p result v q = Reads w p result v q
+Acts Read w p (Ok turn) v q = Reads w p turn v q
+Acts Read w p (Err e) v q = ⊥
 Acts (Begin page) w p result v q = Makes (after_begin page w p) result v q
 
 -- the page that was kept is bad: the step does nothing else
@@ -111,9 +112,9 @@ pub record HasGivenUp (w : Work) (p : Owned) (result : Result StartTurn NoMemory
   pub work_is : v ≡ w
   pub parts_are : q ≡ p
 
--- memory ran out while a page that was kept was fed
+-- memory ran out, for a page to read or while one that was kept was fed: nothing is done
 pub record LacksMemory (w : Work) (p : Owned) (result : Result StartTurn NoMemory) (v : Work) (q : Owned) : Type 0 where
-  pub kept : IsSome w.walk.kept
+  pub takes : takes_memory w ≡ true
   pub refused : IsErr result
   pub work_is : v ≡ w
   pub parts_are : q ≡ p

@@ -28,7 +28,6 @@ pub enum StartTurn {
     Fault(LogWhy),
 }
 
-/// There was no memory for a step. The group is as it was, but that reading may have been tried; the page that was kept
-/// may be fed.
+/// There was no memory for a step, which has changed nothing.
 #[derive(Clone, Copy, Debug, PartialEq, Eq)]
 pub struct NoMemory;

@@ -1,11 +1,10 @@
 //! What the steps do to the parts of the group.
 
-ghost use Rattle.std.specs.Prelude.{◌≡◌, ◌<◌, ◌≤◌, ◌+◌, None, IfOk, OnErr, IsErrOf};
+ghost use Rattle.std.specs.Prelude.{◌≡◌, ◌<◌, ◌≤◌, ◌+◌, None, IfOk, OnErr, length};
 ghost use Rattle.qsg_num.specs.Faults.{Rose};
 ghost use Rattle.qsg_repo.specs.Calls.{next_incarnation};
 ghost use Rattle.qsg_logs.specs.Kept.{log_in};
 ghost use Rattle.qsg_logs.specs.Reading.{IsFound};
-ghost use Rattle.qsg_logpage.specs.declared.read.ReadError.{ReadError};
 ghost use Rattle.qsg_parts.specs.Owned.{owned, HasMember};
 ghost use Rattle.qsg_walk.specs.Walks.{after_read};
 ghost use Rattle.qsg_start.specs.Works.{IsReading, IsSound};
@@ -13,9 +12,8 @@ ghost use Rattle.qsg_start.specs.Needs.{MayAskLow, MayBegin};
 ghost use Rattle.qsg_start.specs.Steps.{first_walk, walking, HasRead, started};
 
 use crate::phases::Phase;
-use qsg_disk::Disk;
-use qsg_logpage::ReadError;
-use qsg_num::{Incarnation, Member, Page, PageNo};
+use qsg_disk::{Disk, Failed};
+use qsg_num::{Incarnation, Member, PAGE_BYTES, Page, PageNo};
 use qsg_parts::Parts;
 use qsg_walk::Walk;
 use std::alloc::Global;
@@ -61,19 +59,20 @@ pub fn keep(walk: &mut Walk, next: PageNo, found: Option<Page>) -> Phase
     walking(walk, after)
 }
 
-/// Reads a page of a member's log. None exactly where none stands there.
+/// Reads a page of a member's log, into room for a page. None exactly where none stands there.
 pub fn read<D: Disk>(
-    alloc: Global,
     parts: &mut Parts<D>,
     member: Member,
     no: PageNo,
-) -> Result<Option<Page>, ReadError>
+    room: Vec<u8>,
+) -> Result<Option<Page>, Failed>
+    requires room { length room.items ≡ PAGE_BYTES }
     requires member { HasMember member (owned parts.old) }
     ensures read { HasRead member (owned parts.old) (owned parts.new) }
     ensures found { IfOk result (λ found. IsFound no.number (log_in member (owned parts.old).logs) found) }
-    ensures failed { IsErrOf result ReadError.Failed → Rose (log_in member (owned parts.old).logs).faults (log_in member (owned parts.new).logs).faults }
+    ensures failed { OnErr result (Rose (log_in member (owned parts.old).logs).faults (log_in member (owned parts.new).logs).faults) }
 {
-    parts.logs.read_page(alloc, member, no)
+    parts.logs.read_page(member, no, room)
 }
 
 /// Gives a member its next incarnation, in which it is up; its log goes on at a page.

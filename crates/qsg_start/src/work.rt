@@ -1,6 +1,6 @@
 //! A START in progress.
 
-ghost use Rattle.std.specs.Prelude.{◌≡◌, true, Ok, IfOk, IsErr, OnErr};
+ghost use Rattle.std.specs.Prelude.{◌≡◌, true, length, Ok, IfOk, IsErr, OnErr};
 ghost use Rattle.qsg_num.specs.declared.words.LogWhy.{LogWhy as LogWhySeen};
 ghost use Rattle.qsg_logread.specs.declared.fault.FeedError.TheVariants as errors;
 ghost use Rattle.qsg_parts.specs.Owned.{owned};
@@ -11,9 +11,9 @@ ghost use Rattle.qsg_start.specs.Needs.{MayAskLow, MayBegin, MayStart, MayStep, 
 use crate::phases::{NoMemory, Phase, StartTurn};
 use crate::steps::{first_walk, keep, read, start, walking};
 use qsg_disk::Disk;
-use qsg_logpage::ReadError;
+use qsg_logpage::page_room;
 use qsg_logread::FeedError;
-use qsg_num::{LogWhy, Member, PageNo};
+use qsg_num::{LogWhy, Member, PAGE_BYTES, PageNo};
 use qsg_parts::Parts;
 use qsg_walk::Walk;
 use std::alloc::Global;
@@ -51,7 +51,7 @@ fn ended(refused: FeedError) -> Result<StartTurn, NoMemory>
 impl StartWork {
     ghost use Rattle.qsg_parts.specs.Owned.{HasMember};
     ghost use Rattle.qsg_start.specs.Works.{IsSound, new_work};
-    ghost use Rattle.qsg_start.specs.Steps.{after_check, after_low, Acts, NextStart};
+    ghost use Rattle.qsg_start.specs.Steps.{after_check, after_low, Reads, Acts, NextStart};
 
     /// The START of a member, before its first step. Takes no memory.
     pub fn begin(alloc: Global, member: Member) -> StartWork
@@ -72,7 +72,7 @@ impl StartWork {
     }
 
     /// Makes the next step. A step that ends the work leaves it as it was, but for the page that it fed; it isn't stepped
-    /// again. Only a step that reads a page or feeds one takes memory.
+    /// again. Only a step that reads a page or feeds one takes memory; one that lacks memory changes nothing.
     pub fn step<D: Disk>(
         &mut self,
         alloc: Global,
@@ -83,6 +83,7 @@ impl StartWork {
         ensures member { self.new.member ≡ self.old.member }
         ensures ready { MayStart self.old.member (owned parts.old) → IfOk result (λ turn. turn ≡ turns.More → MayStart self.new.member (owned parts.new)) }
         ensures memory { OnErr result (takes_memory self.old ≡ true) }
+        ensures unmade { OnErr result ((self.new ≡ self.old) × (owned parts.new ≡ owned parts.old)) }
     {
         self.make(alloc, parts)
     }
@@ -96,10 +97,7 @@ impl StartWork {
         match self.phase {
             Phase::Check => Ok(self.check(parts)),
             Phase::Low => Ok(self.low(alloc, parts)),
-            Phase::Read => match self.walk.feed() {
-                Ok(_) => self.read(alloc, parts),
-                Err(refused) => ended(refused),
-            },
+            Phase::Read => self.read(alloc, parts),
             Phase::Begin(page) => match self.walk.feed() {
                 Ok(_) => self.come_up(parts, page),
                 Err(refused) => ended(refused),
@@ -130,21 +128,37 @@ impl StartWork {
         StartTurn::More
     }
 
-    /// Reads the next page of the log.
+    /// Feeds the page that is kept, if one is, and reads the next page of the log, into room that is made first.
     fn read<D: Disk>(&mut self, alloc: Global, parts: &mut Parts<D>) -> Result<StartTurn, NoMemory>
         requires member { HasMember self.old.member (owned parts.old) }
         requires phase { self.old.phase ≡ phases.Read }
-        ensures acts { Acts phases.Read self.old (owned parts.old) result self.new (owned parts.new) }
+        ensures next { NextStart self.old (owned parts.old) result self.new (owned parts.new) }
+        ensures member { self.new.member ≡ self.old.member }
+    {
+        let Ok(room) = page_room(alloc) else {
+            return Err(NoMemory);
+        };
+        match self.walk.feed() {
+            Ok(_) => Ok(self.read_into(room, parts)),
+            Err(refused) => ended(refused),
+        }
+    }
+
+    /// Reads the next page of the log, with no page kept.
+    fn read_into<D: Disk>(&mut self, room: Vec<u8>, parts: &mut Parts<D>) -> StartTurn
+        requires room { length room.items ≡ PAGE_BYTES }
+        requires member { HasMember self.old.member (owned parts.old) }
+        requires phase { self.old.phase ≡ phases.Read }
+        ensures reads { Reads self.old (owned parts.old) result self.new (owned parts.new) }
         ensures member { self.new.member ≡ self.old.member }
     {
         let next = self.walk.next().unwrap();
-        match read(alloc, parts, self.member, next) {
+        match read(parts, self.member, next, room) {
             Ok(found) => {
                 self.phase = keep(&mut self.walk, next, found);
-                Ok(StartTurn::More)
+                StartTurn::More
             }
-            Err(ReadError::Failed) => Ok(StartTurn::Fault(LogWhy::Device)),
-            Err(ReadError::NoMemory) => Err(NoMemory),
+            Err(_) => StartTurn::Fault(LogWhy::Device),
         }
     }
 

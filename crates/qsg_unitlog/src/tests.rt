@@ -7,7 +7,7 @@ use qsg_disk::Disk;
 use qsg_disk_mem::MemDisk;
 use qsg_group::Claim;
 use qsg_lists::Connection;
-use qsg_logpage::{LogWriter, read_page};
+use qsg_logpage::{LogWriter, page_room, read_page};
 use qsg_logread::Reader;
 use qsg_logrec::StructSet;
 use qsg_model::Op;
@@ -161,7 +161,8 @@ fn committed(alloc: Global, disk: &mut MemDisk) -> [bool; 3] {
     for number in 0..8 {
         let no = PageNo { number };
         if disk.size() == LOG
-            && let Ok(Some(page)) = read_page(alloc, disk, no)
+            && let Ok(room) = page_room(alloc)
+            && let Ok(Some(page)) = read_page(disk, no, room)
         {
             let _ = reader.feed(no, &page);
         }

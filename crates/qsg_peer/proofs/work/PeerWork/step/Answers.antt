@@ -1,5 +1,5 @@
 use Rattle.qsg_parts.specs.Owned.{owned}
-use Rattle.qsg_peer.proofs.Needing.{ready_after, memory_taken}
+use Rattle.qsg_peer.proofs.Needing.{ready_after, memory_taken, unmade}
 use Rattle.qsg_peer.proofs.work.PeerWork.step.Goals as goal
 
 pub returns-clause-ready : goal.returns-clause-ready
@@ -7,3 +7,6 @@ returns-clause-ready g c = λ members. ready_after c.args.skip.now c.args.self.n
 
 pub returns-clause-memory : goal.returns-clause-memory
 returns-clause-memory g c = memory_taken c.args.skip.now c.args.self.now (owned c.args.parts.now) c.make.result c.make.new.self (owned c.make.new.parts) c.make.ensures.next
+
+pub returns-clause-unmade : goal.returns-clause-unmade
+returns-clause-unmade g c = unmade c.args.skip.now c.args.self.now (owned c.args.parts.now) c.make.result c.make.new.self (owned c.make.new.parts) c.make.ensures.next
