@@ -1,6 +1,6 @@
 -- each unit of the history belongs to a COMMIT, and its operations are those that were pending there
 use Rattle.std.proofs.Common.{◌≡◌, ℕ, zero, suc, ◌+◌, ◌/◌, ◌%◌, ◌<◌, List, [], ◌∷◌, ◌++◌, length, get_or, Bool, true, false, cond, Option, Some, None, ◌⊎◌, inl, inr, refl, sym, ap, subst, ◌∙◌, arith, true≢false}
-use Rattle.std.specs.Prelude.{Contains, count_by, sum_by, fold}
+use Rattle.std.specs.Prelude.{Contains, count_by, sum_by, fold, take}
 use Rattle.std.specs.List.{AllByRecursion}
 use Rattle.std.proofs.Math.Nat.{mod-lt}
 use Rattle.std.proofs.lemmas.List.Sums.{sum_by-cons}
@@ -28,19 +28,18 @@ use Rattle.qsg_requests.specs.declared.transcript.Answer.{Answer}
 use Rattle.qsg_requests.specs.declared.words.Request.{Request}
 use Rattle.qsg_requests.specs.declared.words.Request.TheVariants as request
 use Rattle.qsg_agenda.specs.Courses.{Course}
-use Rattle.qsg_manager.specs.Storage.{task_at}
-use Rattle.qsg_commit.specs.declared.phases.Phase.{Phase as EndPhase}
-use Rattle.qsg_commit.specs.declared.phases.Phase.TheVariants as end_phase
-use Rattle.qsg_group.specs.declared.tasks.Task.{Task}
 use Rattle.qsg_works.specs.declared.work.Work.{Work}
-use Rattle.qsg_works.specs.declared.work.Work.TheVariants.{Put, Get, Commit}
 use Rattle.qsg_works.specs.InHand.{place, work_of}
 use Rattle.qsg_steady.specs.Steady.{IsLawful}
 use Rattle.qsg_step.specs.States.{State}
 use Rattle.qsg_sound.specs.Sound.{IsSound}
-use Rattle.qsg_answered.specs.Belonging.{WasAnswered, IsBeingAnswered, Belongs}
-use Rattle.qsg_answered.specs.Fits.{EndsRequest, EndsAsked, AllFit, FitsCourse, HoldsEnd, Holds, commits_in, has_committed, commits_now, AreFitting}
-use Rattle.qsg_answered.specs.Telling.{requested, with_answered, told, pending_of, commits, commits_told}
+use Rattle.qsg_answered.specs.Belonging.{WasAnswered, WasBroken, IsBeingAnswered, Belongs}
+use Rattle.qsg_step.specs.declared.asked.Asked.{Asked}
+use Rattle.qsg_step.specs.Asking.{asked}
+use Rattle.qsg_answered.specs.Cutting.{WasCutOff}
+use Rattle.qsg_answered.specs.Fits.{EndsRequest, EndsUnlessBroken, EndsAsked, AllFit, FitsCourse, commits_in, commits_now, AreFitting}
+use Rattle.qsg_answered.proofs.Deciding.{committing}
+use Rattle.qsg_answered.specs.Telling.{requested, is_broken, with_answered, told, pending_of, commits, commits_told}
 use Rattle.qsg_answered.proofs.Histories.{name_there}
 use Rattle.qsg_answered.proofs.Outcomes.{one_if}
 use Rattle.qsg_answered.proofs.Showing.{one_commit}
@@ -105,7 +104,7 @@ all_there P [] c each there = absurd (none_in_empty c there)
 all_there P (x ∷ cs) c each there = elim (head_or_tail x c cs there) [ inl same ↦ subst P same each.0 | inr later ↦ all_there P cs c each.1 later ]
 
 fit_at : (objects : Registry) (h : List Item) (who : Actor) (ops : List (StructNo × Op)) (before : List (Directive × Answer)) (d : Directive) (a : Answer) (behind : List (Directive × Answer)) → AllFit objects h who ops (before ++ (d, a) ∷ behind)
-    → EndsAsked objects h (fold (with_answered objects who) ops before) d a (requested who d)
+    → EndsAsked objects h (fold (with_answered objects who) ops before) (asked who d) a (requested who d)
 fit_at objects h who ops [] d a behind each = each.0
 fit_at objects h who ops ((e, b) ∷ before) d a behind each = fit_at objects h who (with_answered objects who ops (e, b)) before d a behind each.1
 
@@ -121,10 +120,19 @@ named_ops objects h u ops given at request.Commit reply.Done differ there names 
 named_ops objects h u ops given at request.Commit (reply.Refused reason) differ there names ends = absurd ends
 named_ops objects h u ops given at asked r differ there names ends = absurd (true≢false (sym names))
 
-asked_ops : (objects : Registry) (h : List Item) (u : UnitName) (ops given : List (StructNo × Op)) (d : Directive) (a : Answer) (asked : Option Request) → AllDiffer (names h) → Contains h (UnitOf u ops)
-    → commits u asked a.reply ≡ true → EndsAsked objects h given d a asked → given ≡ ops
-asked_ops objects h u ops given d a None differ there names ends = absurd (true≢false (sym names))
-asked_ops objects h u ops given d a (Some asked) differ there names ends = named_ops objects h u ops given a.at asked a.reply differ there names ends
+-- an answer that names a unit is no 2009
+named_whole : (u : UnitName) (asked : Request) (r : Reply) → commits u (Some asked) r ≡ true → is_broken r ≡ false
+named_whole u request.Commit (reply.Unit (Some v) count) names = refl
+named_whole u request.Commit (reply.Unit None count) names = absurd (true≢false (sym names))
+named_whole u request.Commit (reply.Refused reason) names = absurd (true≢false (sym names))
+named_whole u request.Commit r names = absurd (true≢false (sym names))
+named_whole u asked r names = absurd (true≢false (sym names))
+
+asked_ops : (objects : Registry) (h : List Item) (u : UnitName) (ops given : List (StructNo × Op)) (other : Asked) (a : Answer) (asked : Option Request) → AllDiffer (names h) → Contains h (UnitOf u ops)
+    → commits u asked a.reply ≡ true → EndsAsked objects h given other a asked → given ≡ ops
+asked_ops objects h u ops given other a None differ there names ends = absurd (true≢false (sym names))
+asked_ops objects h u ops given other a (Some asked) differ there names ends =
+    named_ops objects h u ops given a.at asked a.reply differ there names (subst (λ (b : Bool). EndsUnlessBroken b objects h given a.at asked a.reply) (named_whole u asked a.reply names) ends)
 
 was_answered : (s : State) (u : UnitName) (ops : List (StructNo × Op)) → IsSound s → IsLawful s.parts → AreFitting s → Contains s.parts.history.items (UnitOf u ops) → 0 < sum_by (commits_in u) s.courses → WasAnswered u ops s
 was_answered s u ops sound l fits there some =
@@ -144,7 +152,7 @@ was_answered s u ops sound l fits there some =
       behind = split.behind;
       told_is = split.is;
       names = split.passes;
-      pending = asked_ops objects h u ops (fold (with_answered objects c.actor) [] split.before) split.here.0 split.here.1 (requested c.actor split.here.0) (differing s l) there split.passes ends;
+      pending = asked_ops objects h u ops (fold (with_answered objects c.actor) [] split.before) (asked c.actor split.here.0) split.here.1 (requested c.actor split.here.0) (differing s l) there split.passes ends;
     }
 
 -- ---- a COMMIT in hand
@@ -189,39 +197,45 @@ hand_at p (w ∷ works) some = by (p w) refl (hand_at p works)
         let found = rest (omega (arith, some, sum_by-cons (λ (y : Option Work). one_if (p y)) w works, none)) in
         (suc found.0, omega (arith, found.1), found.2)
 
-end_ops : (h : List Item) (task : Task) (u : UnitName) (ops given : List (StructNo × Op)) (phase : EndPhase) → AllDiffer (names h) → Contains h (UnitOf u ops) → has_committed u phase ≡ true → HoldsEnd h task given phase → given ≡ ops
-end_ops h task u ops given (end_phase.Settle v count) differ there names held =
-    same_ops h u given ops differ (subst (λ (x : UnitName). Contains h (UnitOf x given)) (sym (same_name u v names)) held.committed.there) there
-end_ops h task u ops given (end_phase.Publish v count) differ there names held =
-    same_ops h u given ops differ (subst (λ (x : UnitName). Contains h (UnitOf x given)) (sym (same_name u v names)) held.committed.there) there
-end_ops h task u ops given end_phase.Latch differ there names held = absurd (true≢false (sym names))
-end_ops h task u ops given (end_phase.Pages v count) differ there names held = absurd (true≢false (sym names))
-end_ops h task u ops given end_phase.GiveUp differ there names held = absurd (true≢false (sym names))
-end_ops h task u ops given (end_phase.Undo v count) differ there names held = absurd (true≢false (sym names))
-
-hand_ops : (objects : Registry) (h : List Item) (task : Task) (u : UnitName) (ops given : List (StructNo × Op)) (work : Option Work) → AllDiffer (names h) → Contains h (UnitOf u ops) → commits_now u work ≡ true → Holds objects h task given work → given ≡ ops
-hand_ops objects h task u ops given None differ there names held = absurd (true≢false (sym names))
-hand_ops objects h task u ops given (Some (Put w)) differ there names held = absurd (true≢false (sym names))
-hand_ops objects h task u ops given (Some (Get w)) differ there names held = absurd (true≢false (sym names))
-hand_ops objects h task u ops given (Some (Commit w)) differ there names held = end_ops h task u ops given w.phase differ there names held
-
 is_in_hand : (s : State) (u : UnitName) (ops : List (StructNo × Op)) → IsSound s → IsLawful s.parts → AreFitting s → Contains s.parts.history.items (UnitOf u ops) → 0 < count_by (commits_now u) s.works → IsBeingAnswered u ops s
 is_in_hand s u ops sound l fits there some =
     let found = hand_at (commits_now u) s.works some in
     let at = task_of_place found.0 (omega (arith, found.1, sound.forty)) in
     let now : commits_now u (work_of at.0 at.1 s.works) ≡ true = ap (λ (i : ℕ). commits_now u (get_or s.works i None)) at.2 ∙ found.2 in
+    let c = committing s at.0 at.1 u sound fits now in
     record {
       member = at.0;
       task = at.1;
       commits = now;
-      pending = hand_ops s.parts.objects s.parts.history.items (task_at at.0 at.1 s.parts.managers) u ops (pending_of s.parts.objects at.0 at.1 s.courses) (work_of at.0 at.1 s.works) (differing s l) there now (fits.tasks at.0 at.1);
+      pending = same_ops s.parts.history.items u (pending_of s.parts.objects at.0 at.1 s.courses) ops (differing s l) c.committed there;
     }
+
+-- ---- a COMMIT that was answered 2009
+
+taken_there : (n : ℕ) (h : List Item) (i : Item) → Contains (take n h) i → Contains h i
+taken_there zero h i there = absurd (none_in_empty i there)
+taken_there (suc n) [] i there = absurd (none_in_empty i there)
+taken_there (suc n) (j ∷ h) i there = elim (head_or_tail j i (take n h) there) [
+  | inl same ↦ subst (λ (x : Item). Contains (j ∷ h) x) same (at_head j h)
+  | inr later ↦ in_tail j i h (taken_there n h i later)
+]
+
+was_broken : (s : State) (u : UnitName) (ops : List (StructNo × Op)) → IsLawful s.parts → Contains s.parts.history.items (UnitOf u ops) → WasCutOff u s → WasBroken u ops s
+was_broken s u ops l there cut = record {
+  cut = cut;
+  pending = same_ops s.parts.history.items u (fold (with_answered s.parts.objects cut.course.actor) [] cut.before) ops (differing s l)
+      (taken_there (cut.answer.at + 1) s.parts.history.items (UnitOf u (fold (with_answered s.parts.objects cut.course.actor) [] cut.before)) cut.committed) there;
+}
 
 -- ---- the COMMIT of a unit
 
 pub belongs : (s : State) (u : UnitName) (ops : List (StructNo × Op)) → IsSound s → IsLawful s.parts → AreFitting s → Contains s.parts.history.items (UnitOf u ops) → Belongs u ops s
 belongs s u ops sound l fits there = by (sum_by (commits_in u) s.courses) refl
   where
+    hand : (b : Bool) → fits.cut_off u ≡ b → sum_by (commits_in u) s.courses ≡ 0 → Belongs u ops s
+    hand true is none = inr (inl (was_broken s u ops l there (fits.cut u is)))
+    hand false is none = inr (inr (is_in_hand s u ops sound l fits there (let one = one_commit s u ops sound l fits there in let zero = ap one_if is in omega (arith, one, none, zero))))
+
     by : (n : ℕ) → sum_by (commits_in u) s.courses ≡ n → Belongs u ops s
-    by zero is = inr (is_in_hand s u ops sound l fits there (let one = one_commit s u ops sound l fits there in omega (arith, one, is)))
+    by zero is = hand (fits.cut_off u) refl is
     by (suc n) is = inl (was_answered s u ops sound l fits there (omega (arith, is)))

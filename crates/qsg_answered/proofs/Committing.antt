@@ -120,7 +120,7 @@ nothing_is (Some (v, n)) None is = absurd (true≢false (sym (ap is_nothing is))
 nothing_moves : (a b : ℕ) (m : Member) (t : TaskNo) (ops : List (StructNo × Op)) (p : Owned) → IsSteady a b p → (task_at m t p.managers).ops ≡ ops → pending (task_at m t p.managers) ≡ None → EndMoves m t ops Latch p nothing_ended Latch p
 nothing_moves a b m t ops p s held is =
     let none = nothing_pending a b m t p s is in
-    record { move = still m t p; history = refl; holds = none; ends = record { pending = sym held ∙ none; none = refl }; out = tt; counts = λ u. refl }
+    record { move = still m t p; history = refl; holds = none; ends = record { pending = sym held ∙ none; none = refl }; whole = refl; out = tt; counts = λ u. refl }
 
 latched_moves : (a b : ℕ) (m : Member) (t : TaskNo) (ops : List (StructNo × Op)) (p q : Owned) (u : UnitName) (count : ℕ) → IsSteady a b p → HasMember m p → (task_at m t p.managers).ops ≡ ops → pending (task_at m t p.managers) ≡ Some (u, count)
     → IsLatched m t u p q → EndMoves m t ops Latch p More (Pages u count) q
@@ -129,7 +129,7 @@ latched_moves a b m t ops p q u count s has held is latch =
     let y = record task { stage = Hardening (record { number = (log_in m p.logs).writer.next }) } in
     let five = member_five a b p m s has in
     subst (λ x. EndMoves m t ops Latch p More (Pages u count) x) (sym latch.parts) (record {
-      move = record { objects = refl; lives = refl; frame = frame_stored m t y p.managers has.manager five (λ v holds. holds); inside = λ each. each };
+      move = record { objects = refl; lives = refl; frame = frame_stored m t y p.managers has.manager five (λ v holds. holds); inside = λ each. each; told = λ is_told own each. each };
       history = inl refl;
       holds = (ap (λ (z : Task). z.ops) (task_stored m t y p.managers has.manager five) ∙ held, subst (λ l. IsCountOf l count) held (some_pending task u count is));
       counts = λ v. refl;
@@ -180,7 +180,7 @@ page_by : (a b : ℕ) (t : TaskNo) (ops : List (StructNo × Op)) (p q : Owned) (
     → IsPageStep u t done p q → EndMoves u.member t ops (Pages u count) p More (after_page done u count) q
 page_by a b t ops p q u count false s l has hard held counted step =
     subst (λ x. EndMoves u.member t ops (Pages u count) p More (Pages u count) x) (sym step.made) (record {
-      move = record { objects = refl; lives = refl; frame = frame_same u.member t p.managers; inside = λ each. each };
+      move = record { objects = refl; lives = refl; frame = frame_same u.member t p.managers; inside = λ each. each; told = λ is_told own each. each };
       history = inl refl;
       holds = (held, counted);
       counts = λ v. refl;
@@ -192,7 +192,7 @@ page_by a b t ops p q u count true s l has hard held counted step =
     let five = member_five a b p m s has in
     let unit = ap (λ (z : Task). z.unit) hard.is in
     subst (λ x. EndMoves m t ops (Pages u count) p More (Settle u count) x) (sym step.made.parts) (record {
-      move = record { objects = refl; lives = refl; frame = frame_stored m t y p.managers has.manager five (λ v holds. holds); inside = λ each. each };
+      move = record { objects = refl; lives = refl; frame = frame_stored m t y p.managers has.manager five (λ v holds. holds); inside = λ each. each; told = λ is_told own each. each };
       history = inr (record { unit = u; ops = task.ops; holds = unit; new = not_yet t u p l hard; items = refl });
       holds = record {
         committed = record {

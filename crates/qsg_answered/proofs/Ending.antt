@@ -10,7 +10,7 @@ use Rattle.qsg_num.specs.declared.seats.TaskNo.{TaskNo}
 use Rattle.qsg_num.specs.declared.ids.PageNo.{PageNo}
 use Rattle.qsg_num.specs.declared.ids.UnitName.{UnitName}
 use Rattle.qsg_num.specs.Ids.{same_unit}
-use Rattle.qsg_num.specs.Seats.{member_number, task_number}
+use Rattle.qsg_num.specs.Seats.{member_number, structure_number, task_number}
 use Rattle.qsg_model.specs.declared.history.Op.{Op}
 use Rattle.qsg_model.specs.Past.{is_unit}
 use Rattle.qsg_lists.specs.Settling.{settle_answer, settled_entry, revised_if_done}
@@ -43,9 +43,10 @@ use Rattle.qsg_commit.specs.Next.{Next, unit_ended, after_settle, after_publish,
 use Rattle.qsg_commit.specs.Pending.{pending}
 use Rattle.qsg_fit.proofs.Opened.{opened, task_stored}
 use Rattle.qsg_fit.proofs.Settling.{pending_unit}
+use Rattle.qsg_answered.specs.Cutting.{AreToldBy}
 use Rattle.qsg_answered.specs.Fits.{IsCountOf, IsCommitted, IsSettled, IsLeftOut}
 use Rattle.qsg_answered.proofs.Committing.{EndMoves, nothing_pending, some_pending}
-use Rattle.qsg_answered.proofs.Frames.{IsFrame, frame_stored, frame_more, inside_in, inside_with, inside_settled}
+use Rattle.qsg_answered.proofs.Frames.{IsFrame, frame_stored, frame_more, inside_in, inside_with, inside_settled, IsTelling, told_with, told_settled}
 use Rattle.qsg_answered.proofs.Outcomes.{IsMove, still, one_if, named_in}
 
 -- the member is one of the group, with its five tasks
@@ -64,25 +65,31 @@ still_there m t y ms there =
       five = ap (λ (z : Manager). length z.tasks) (manager_same m x ms there.within) ∙ length-set (manager_in m ms).tasks (task_number t) y ∙ there.five;
     }
 
-move_more : (m : Member) (t : TaskNo) (p q r : Owned) → IsMove m t p q → IsMove m t q r → IsMove m t p r
-move_more m t p q r first then = record {
+-- puts of incarnations that failed are told whatever the task does
+abbrev KeepsTold : Owned → Owned → Type 0
+KeepsTold p q = (is_told : IsTelling) → AreToldBy is_told p → AreToldBy is_told q
+
+move_more : (m : Member) (t : TaskNo) (p q r : Owned) → IsMove m t p q → IsMove m t q r → KeepsTold q r → IsMove m t p r
+move_more m t p q r first then told = record {
   objects = then.objects ∙ first.objects;
   lives = then.lives ∙ first.lives;
   frame = frame_more m t p.managers q.managers r.managers first.frame then.frame;
   inside = λ each. then.inside (first.inside each);
+  told = λ is_told own each. told is_told (first.told is_told own each);
 }
 
 -- ---- a mark
 
 record IsOff (m : Member) (t : TaskNo) (p q : Owned) : Type 0 where
   pub move : IsMove m t p q
+  pub told : KeepsTold p q
   pub history : q.history ≡ p.history
   pub there : IsThere m q.managers
   pub unit : (task_at m t q.managers).unit ≡ (task_at m t p.managers).unit
   pub claims : (task_at m t q.managers).claims ≡ (task_at m t p.managers).claims
 
 off_by : (t : TaskNo) (u : UnitName) (p : Owned) (next : Option Claim) → IsThere u.member p.managers → IsOff u.member t p (settled_by u t next p)
-off_by t u p None there = record { move = still u.member t p; history = refl; there = there; unit = refl; claims = refl }
+off_by t u p None there = record { move = still u.member t p; told = λ is_told each. each; history = refl; there = there; unit = refl; claims = refl }
 off_by t u p (Some c) there =
     let m = u.member in
     let task = task_at m t p.managers in
@@ -90,13 +97,17 @@ off_by t u p (Some c) there =
     let s = c.connection.structure in
     let structure = structure_in s p.structures in
     let answer = settle_answer structure c.connection c.id u in
+    let told : KeepsTold p (settled_by u t (Some c) p) = λ is_told each. told_with is_told s (revised_if_done answer c.id (settled_entry (commits task.stage)) structure) p.structures each
+    (told_settled is_told (structure_number s) answer c.id (commits task.stage) structure (each s)) in
     record {
       move = record {
         objects = refl;
         lives = refl;
         frame = frame_stored m t y p.managers there.within there.five (λ v holds. holds);
         inside = λ each. inside_with s (revised_if_done answer c.id (settled_entry (commits task.stage)) structure) p.structures each (inside_settled answer c.id (commits task.stage) structure (inside_in s p.structures each));
+        told = λ is_told own each. told is_told each;
       };
+      told = told;
       history = refl;
       there = still_there m t y p.managers there;
       unit = ap (λ (z : Task). z.unit) (task_stored m t y p.managers there.within there.five);
@@ -119,6 +130,7 @@ end_there t u p there = record {
   lives = refl;
   frame = frame_stored u.member t idle p.managers there.within there.five (λ v holds. absurd (none-some v holds));
   inside = λ each. each;
+  told = λ is_told own each. each;
 }
 
 end_idle : (t : TaskNo) (u : UnitName) (p : Owned) → IsThere u.member p.managers → task_at u.member t (ended u t p).managers ≡ idle
@@ -137,10 +149,11 @@ publish_there : (t : TaskNo) (ops : List (StructNo × Op)) (u : UnitName) (count
 publish_there t ops u count p there is =
     let move = end_there t u p there in
     record {
-      move = record { objects = refl; lives = told_lives u.member (low_page u.member (ended u t p)) p.repo; frame = move.frame; inside = λ each. each };
+      move = record { objects = refl; lives = told_lives u.member (low_page u.member (ended u t p)) p.repo; frame = move.frame; inside = λ each. each; told = λ is_told own each. each };
       history = refl;
       holds = ap (λ (z : Task). z.ops) (end_idle t u p there);
       ends = is;
+      whole = refl;
       out = tt;
       counts = λ v. refl;
     }
@@ -186,7 +199,7 @@ undo_by : (a b : ℕ) (t : TaskNo) (ops : List (StructNo × Op)) (u : UnitName) 
     → ((q : Owned) (move : IsMove u.member t p q) → q.history ≡ p.history → EndMoves u.member t ops before p More (Undo u count) q)
     → EndMoves u.member t ops before p (cond z (unit_ended u count) More) (cond z at (Undo u count)) (cond z (ended u t r) r)
 undo_by a b t ops u count before at p r true s holds out counted off finish go =
-    finish (ended u t r) (move_more u.member t p r (ended u t r) off.move (end_there t u r off.there)) off.history (end_idle t u r off.there)
+    finish (ended u t r) (move_more u.member t p r (ended u t r) off.move (end_there t u r off.there) (λ is_told each. each)) off.history (end_idle t u r off.there)
 undo_by a b t ops u count before at p r false s holds out counted off finish go = go r off.move off.history
 
 gave_up : (a b : ℕ) (t : TaskNo) (ops : List (StructNo × Op)) (u : UnitName) (count : ℕ) (p q : Owned) → IsSteady a b p → IsLawful p → (task_at u.member t p.managers).unit ≡ Some u → is_unit u p.history.items ≡ false → IsCountOf ops count
@@ -196,6 +209,7 @@ gave_up a b t ops u count p q s l holds out counted move history free = record {
   history = ap (λ h. h.items) history;
   holds = ap (λ (z : Task). z.ops) free;
   ends = counted;
+  whole = refl;
   out = left_out_by a b t u p q s l holds out move.frame history free;
   counts = λ v. refl;
 }
@@ -207,6 +221,7 @@ undid a b t ops u count p q s l holds out counted move history free = record {
   history = ap (λ h. h.items) history;
   holds = ap (λ (z : Task). z.ops) free;
   ends = counted;
+  whole = refl;
   out = left_out_by a b t u p q s l holds out move.frame history free;
   counts = λ v. refl;
 }
@@ -260,10 +275,11 @@ off_given_up : (t : TaskNo) (u : UnitName) (p : Owned) → IsThere u.member p.ma
 off_given_up t u p there =
     let m = u.member in
     let y = decided (BackedOut 0) (task_at m t p.managers) in
-    let first : IsMove m t p (given_up u t p) = record { objects = refl; lives = refl; frame = frame_stored m t y p.managers there.within there.five (λ v holds. holds); inside = λ each. each } in
+    let first : IsMove m t p (given_up u t p) = record { objects = refl; lives = refl; frame = frame_stored m t y p.managers there.within there.five (λ v holds. holds); inside = λ each. each; told = λ is_told own each. each } in
     let off = mark_off t u (given_up u t p) (still_there m t y p.managers there) in
     record {
-      move = move_more m t p (given_up u t p) (settled u t (given_up u t p)) first off.move;
+      move = move_more m t p (given_up u t p) (settled u t (given_up u t p)) first off.move off.told;
+      told = λ is_told each. off.told is_told each;
       history = off.history;
       there = off.there;
       unit = off.unit ∙ ap (λ (z : Task). z.unit) (task_stored m t y p.managers there.within there.five);
@@ -287,7 +303,7 @@ give_up_by : (a b : ℕ) (m : Member) (t : TaskNo) (ops : List (StructNo × Op))
     → EndMoves m t ops GiveUp p (after_give_up t found p).turn (after_give_up t found p).phase (after_give_up t found p).parts
 give_up_by a b m t ops p None s l has ready held is =
     let none = nothing_pending a b m t p s is in
-    record { move = still m t p; history = refl; holds = none; ends = record { pending = sym held ∙ none; none = refl }; out = tt; counts = λ u. refl }
+    record { move = still m t p; history = refl; holds = none; ends = record { pending = sym held ∙ none; none = refl }; whole = refl; out = tt; counts = λ u. refl }
 give_up_by a b m t ops p (Some (u, count)) s l has ready held is =
     let holds = pending_unit (task_at m t p.managers) u count is in
     let counted = subst (λ l. IsCountOf l count) held (some_pending (task_at m t p.managers) u count is) in

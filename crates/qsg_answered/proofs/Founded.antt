@@ -1,6 +1,6 @@
 -- in a new group all answers fit
-use Rattle.std.proofs.Common.{◌≡◌, ℕ, zero, suc, ◌-◌, List, [], ◌∷◌, get_or, Option, Some, None, refl, sym, ap, subst, ◌∙◌, arith, Bool, true, false, cond}
-use Rattle.std.specs.Prelude.{replicate, count_by, sum_by, fold, find}
+use Rattle.std.proofs.Common.{◌≡◌, ℕ, zero, suc, ◌-◌, ◌<◌, length, true≢false, List, [], ◌∷◌, get_or, Option, Some, None, refl, sym, ap, subst, ◌∙◌, arith, Bool, true, false, cond}
+use Rattle.std.specs.Prelude.{slice_index_or, replicate, count_by, sum_by, fold, find}
 use Rattle.std.specs.List.{zip, AllByRecursion}
 use Rattle.std.proofs.lemmas.List.Sums.{sum_by-cons}
 use Rattle.qsg_num.specs.declared.seats.Member.{Member}
@@ -9,7 +9,7 @@ use Rattle.qsg_num.specs.declared.seats.TaskNo.TheVariants as number
 use Rattle.qsg_num.specs.declared.ids.Actor.TheVariants as actor
 use Rattle.qsg_num.specs.declared.ids.UnitName.{UnitName}
 use Rattle.qsg_num.specs.Ids.{same_unit}
-use Rattle.qsg_num.specs.Seats.{member_number}
+use Rattle.qsg_num.specs.Seats.{member_number, structure_number}
 use Rattle.qsg_model.specs.declared.history.Item.{Item}
 use Rattle.qsg_model.specs.History.{names}
 use Rattle.qsg_lists.specs.Structures.{ListStructure}
@@ -21,12 +21,18 @@ use Rattle.qsg_parts.specs.Owned.{Owned}
 use Rattle.qsg_steady.specs.Founding.{new_manager, IsNewStructure}
 use Rattle.qsg_works.specs.declared.work.Work.{Work}
 use Rattle.qsg_works.specs.InHand.{place, work_of}
-use Rattle.qsg_step.specs.States.{State}
+use Rattle.qsg_manager.specs.Facilities.{no_structure}
+use Rattle.qsg_steady.proofs.Places.{member_some}
+use Rattle.qsg_peers.specs.Peers.{Peer, new_peer, peer_of}
+use Rattle.qsg_step.specs.States.{State, is_due}
 use Rattle.qsg_sound.specs.Founding.{IsUnanswered, IsNewState}
-use Rattle.qsg_answered.specs.Telling.{with_answered, told, pending, pending_in, pending_of, commits_told}
-use Rattle.qsg_answered.specs.Fits.{AllFit, FitsCourse, Holds, StaysOutTold, LeavesOut, commits_in, commits_now, IsInside, AreInside, AreFitting}
+use Rattle.qsg_answered.specs.Telling.{with_answered, told, pending, pending_in, pending_of, commits_told, starts_told, starts_in}
+use Rattle.qsg_answered.specs.Cutting.{is_told_of}
+use Rattle.qsg_answered.specs.Timing.{AreTimed}
+use Rattle.qsg_answered.specs.Systems.{FitsSystem, HasGivenUp}
+use Rattle.qsg_answered.specs.Fits.{AllFit, FitsCourse, Holds, HoldsUnlessDue, StaysOutTold, LeavesOut, commits_in, commits_now, IsInside, AreInside, AreFitting}
 use Rattle.qsg_answered.proofs.Courses.{all_more}
-use Rattle.qsg_answered.proofs.Frames.{all_or}
+use Rattle.qsg_answered.proofs.Frames.{all_or, IsTelling, AllTold}
 use Rattle.qsg_answered.proofs.Told.{none_told}
 
 -- nothing is told of a course without answers
@@ -89,6 +95,42 @@ none_inside : (ss : List ListStructure) → AllByRecursion IsNewStructure ss →
 none_inside [] each = tt
 none_inside (x ∷ ss) each = (subst (AllByRecursion IsInside) (sym each.0.entries) tt, none_inside ss each.1)
 
+-- nor is any put of an incarnation that failed
+none_told_of : (is_told : IsTelling) (x : ℕ) (ss : List ListStructure) (i : ℕ) → AllByRecursion IsNewStructure ss → AllTold is_told x (slice_index_or ss i no_structure).entries
+none_told_of is_told x [] i each = tt
+none_told_of is_told x (y ∷ ss) zero each = subst (AllTold is_told x) (sym each.0.entries) tt
+none_told_of is_told x (y ∷ ss) (suc i) each = none_told_of is_told x ss i each.1
+
+-- ---- nobody was answered
+
+timed_none : (n : ℕ) (c : Course) → IsUnanswered c → AreTimed 0 n c.answers
+timed_none n c none = subst (AreTimed 0 n) (sym none) tt
+
+no_starts : (k : Member) (c : Course) → IsUnanswered c → starts_in k c ≡ 0
+no_starts k c none = ap (count_by (starts_told c.actor k)) (nothing_told c none)
+
+none_start : (k : Member) (cs : List Course) → AllByRecursion IsUnanswered cs → sum_by (starts_in k) cs ≡ 0
+none_start k [] each = refl
+none_start k (c ∷ cs) each = omega (arith, sum_by-cons (starts_in k) c cs, no_starts k c each.0, none_start k cs each.1)
+
+new_at : (ms : List Manager) (i : ℕ) → i < length ms → AllByRecursion (λ (x : Manager). x ≡ new_manager) ms → (slice_index_or ms i no_manager).incarnation.number ≡ 1
+new_at [] i less each = absurd (omega (arith, less))
+new_at (x ∷ ms) zero less each = ap (λ (z : Manager). z.incarnation.number) each.0
+new_at (x ∷ ms) (suc i) less each = new_at ms i (omega (arith, less)) each.1
+
+none_due : (n i : ℕ) → get_or (replicate n false) i false ≡ false
+none_due zero i = refl
+none_due (suc n) zero = refl
+none_due (suc n) (suc i) = none_due n i
+
+new_peers : (n i : ℕ) → get_or (replicate n new_peer) i new_peer ≡ new_peer
+new_peers zero i = refl
+new_peers (suc n) zero = refl
+new_peers (suc n) (suc i) = new_peers n i
+
+new_given_up : HasGivenUp new_peer
+new_given_up = record { before = []; since = []; answers_are = refl; given_up_is = refl }
+
 pub new_fits : (s : State) → IsNewState s → AreFitting s
 new_fits s new =
     let objects = s.parts.objects in
@@ -96,15 +138,31 @@ new_fits s new =
     record {
       answers = all_more IsUnanswered (FitsCourse objects h) s.courses (fits_none objects h) new.unanswered;
       tasks = λ m t.
-          subst (λ (x : Option Work). Holds objects h (task_at m t s.parts.managers) (pending_of objects m t s.courses) x)
+          subst (λ (b : Bool). HoldsUnlessDue b objects h (task_at m t s.parts.managers) (pending_of objects m t s.courses) (work_of m t s.works)) (sym (ap (is_due m t) new.due ∙ none_due 40 (place m t)))
+          (subst (λ (x : Option Work). Holds objects h (task_at m t s.parts.managers) (pending_of objects m t s.courses) x)
           (sym (ap (work_of m t) new.works ∙ none_in_hand 40 (place m t)))
-          (no_ops m t s.parts.managers new.parts.managers ∙ sym (all_found IsUnanswered (λ c. same_actor c.actor (actor.Task m t)) s.courses new.unanswered objects (nothing_pending objects)));
+          (no_ops m t s.parts.managers new.parts.managers ∙ sym (all_found IsUnanswered (λ c. same_actor c.actor (actor.Task m t)) s.courses new.unanswered objects (nothing_pending objects))));
+      none = λ m. all_found IsUnanswered (λ c. same_actor c.actor (actor.Task m number.System)) s.courses new.unanswered objects (nothing_pending objects);
       left_out = all_more IsUnanswered (LeavesOut s.parts) s.courses (out_none s.parts) new.unanswered;
+      cut_off = λ u. false;
+      cut = λ u is. absurd (true≢false (sym is));
       once = λ u.
           let none = none_commit u s.courses new.unanswered in
           let works : count_by (commits_now u) s.works ≡ 0 = ap (count_by (commits_now u)) new.works in
           let named : count_by (same_unit u) (names h) ≡ 0 = ap (λ l. count_by (same_unit u) (names l)) new.parts.history in
           omega (arith, none, works, named);
       inside = none_inside s.parts.structures new.parts.structures;
-      unfailed = new.parts.unfailed;
+      told = λ x. none_told_of (is_told_of (λ u. false) s.parts) (structure_number x) s.parts.structures (structure_number x - 1) new.parts.structures;
+      timed = all_more IsUnanswered (λ (c : Course). AreTimed 0 (length h) c.answers) s.courses (timed_none (length h)) new.unanswered;
+      given = λ m within.
+          let none = none_start m s.courses new.unanswered in
+          let first = new_at s.parts.managers (member_number m - 1) (omega (arith, within, member_some m)) new.parts.managers in
+          omega (arith, none, first);
+      systems = λ m.
+          let same : peer_of m s.peers ≡ new_peer = ap (peer_of m) new.peers ∙ new_peers 8 (member_number m - 1) in
+          record {
+            answers = subst (λ (x : Peer). AllByRecursion (FitsSystem m s.parts s.tallies.rows) x.answers) (sym same) tt;
+            given_up = subst HasGivenUp (sym same) new_given_up;
+            timed = subst (λ (x : Peer). AreTimed 0 (length h) x.answers) (sym same) tt;
+          };
     }

@@ -8,7 +8,7 @@ use Rattle.qsg_steady.proofs.Places.{member_some, member_few, task_few}
 use Rattle.qsg_works.specs.declared.work.Work.{Work}
 use Rattle.qsg_works.specs.InHand.{place, work_of, with_work}
 
-place_few : (m : Member) (t : TaskNo) → place m t < 40
+pub place_few : (m : Member) (t : TaskNo) → place m t < 40
 place_few m t = omega (arith, member_some m, member_few m, task_few t)
 
 abbrev one : (Option Work → Bool) → Option Work → ℕ

@@ -19,3 +19,9 @@ pub mod Histories
 pub mod Deciding
 pub mod Showing
 pub mod Belonging
+pub mod Breaking
+pub mod Ends
+pub mod Systems
+pub mod Starting
+pub mod Broken
+pub mod Operated

@@ -1,5 +1,5 @@
 -- a step leaves which logs tell their bytes
-use Rattle.std.proofs.Common.{◌≡◌, ℕ, ◌-◌, ◌≤◌, List, length, map, get_or, Bool, true, false, cond, Option, Some, None, Result, Ok, Err, refl, sym, ap, subst, ◌∙◌}
+use Rattle.std.proofs.Common.{◌≡◌, ℕ, ◌-◌, ◌≤◌, List, length, map, get_or, Bool, true, false, cond, Option, Some, None, Result, Ok, Err, inl, inr, refl, sym, ap, subst, ◌∙◌}
 use Rattle.std.proofs.lemmas.List.{length-map}
 use Rattle.std.proofs.Math.ListN.{get_or-map}
 use Rattle.std.proofs.Math.Seq.{map-set_same}
@@ -59,9 +59,30 @@ use Rattle.qsg_step.specs.declared.asked.Asked.{Asked}
 use Rattle.qsg_step.specs.declared.asked.Asked.TheVariants as asks
 use Rattle.qsg_step.specs.declared.step.Step.{Step}
 use Rattle.qsg_step.specs.Asking.{asked}
-use Rattle.qsg_step.specs.States.{State}
-use Rattle.qsg_step.specs.Steps.{IsAfter, work_before, WorkSteps, StepAsked, StepUnless, StepAt, IsStep}
-use Rattle.qsg_step.specs.Waiting.{cause_of}
+use Rattle.qsg_step.specs.States.{State, is_due, is_member_up}
+use Rattle.qsg_step.specs.Ends.{IsEnd}
+use Rattle.qsg_step.specs.Steps.{IsAfter, with_hand, work_before, WorkSteps, RequestSteps, CrashSteps, start_reply, start_before, started_as, IsStartStep, peer_work_before, peer_before, IsPeerStep, SystemSteps, StepAsked, StepUnless, StepAt, StepAs, IsStep}
+use Rattle.qsg_step.specs.Waiting.{cause_of, has_work, system_of}
+use Rattle.qsg_num.specs.declared.ids.Incarnation.{Incarnation}
+use Rattle.qsg_repo.specs.Lives.{first_open}
+use Rattle.qsg_requests.specs.declared.replies.Reply.{Reply}
+use Rattle.qsg_manager.specs.Storage.{manager_in}
+use Rattle.qsg_logs.specs.Reading.{IsRead}
+use Rattle.qsg_start.specs.declared.phases.StartTurn.{StartTurn}
+use Rattle.qsg_start.specs.declared.phases.Phase.{Phase as StartPhase}
+use Rattle.qsg_start.specs.declared.phases.Phase.TheVariants as start_phase
+use Rattle.qsg_start.specs.Works.{Work as StartWork}
+use Rattle.qsg_start.specs.Steps as starting
+use Rattle.qsg_start.specs.Steps.{Next as NextOfStart, checked}
+use Rattle.qsg_peer.specs.declared.phases.FailedLife.{FailedLife}
+use Rattle.qsg_peer.specs.declared.phases.PeerTurn.{PeerTurn}
+use Rattle.qsg_peer.specs.declared.phases.Phase.{Phase as PeerPhase}
+use Rattle.qsg_peer.specs.declared.phases.Phase.TheVariants.{Find, Low, At}
+use Rattle.qsg_peer.specs.declared.phases.Stage.{Stage}
+use Rattle.qsg_peer.specs.declared.phases.Stage.TheVariants.{Read, Connect, Search, Settle, Resolve}
+use Rattle.qsg_peer.specs.Works.{Work as PeerWork}
+use Rattle.qsg_peer.specs.Steps as peer
+use Rattle.qsg_peer.specs.Steps.{Next as NextOfPeer}
 
 -- of each log, whether it tells its bytes
 abbrev tells : KeptLog → Bool
@@ -203,23 +224,102 @@ failed_work p q (Put old) (Put new) next = absurd next
 failed_work p q (Get old) (Get new) next = absurd next
 failed_work p q before work next = absurd next
 
+-- ---- the end of a member, a START, and system tasks
+
+end_tells : (m : Member) (s r : State) → IsEnd m s r → tellers r.parts ≡ tellers s.parts
+end_tells m s r end = ap tellers end.crash.parts ∙ log_same m (log_in m r.parts.logs) s.parts.logs end.crash.log.tells
+
+read_tells : (m : Member) (p q : Owned) → q ≡ record p { logs = with_log m (log_in m q.logs) p.logs } → IsRead (log_in m p.logs) (log_in m q.logs) → tellers q ≡ tellers p
+read_tells m p q is read = ap tellers is ∙ log_same m (log_in m q.logs) p.logs (ap (λ (l : KeptLog). l.tells) read.rest)
+
+start_parts : (next : NextOfStart) (turn : StartTurn) (v : StartWork) (q : Owned) → record { turn = turn; work = v; parts = q } ≡ next → tellers q ≡ tellers next.parts
+start_parts next turn v q is = ap (λ (x : NextOfStart). tellers x.parts) is
+
+check_tells : (up : Bool) (w : StartWork) (p : Owned) → tellers (checked up w p).parts ≡ tellers p
+check_tells true w p = refl
+check_tells false w p = refl
+
+start_acts : (phase : StartPhase) (w : StartWork) (p : Owned) (turn : StartTurn) (v : StartWork) (q : Owned) → starting.Acts phase w p (Ok turn) v q → tellers q ≡ tellers p
+start_acts start_phase.Check w p turn v q acts = start_parts (starting.after_check w p) turn v q acts ∙ check_tells (manager_in w.member p.managers).up w p
+start_acts start_phase.Low w p turn v q acts = start_parts (starting.after_low w p) turn v q acts
+start_acts start_phase.Read w p turn v q acts = read_tells w.member p q acts.0.others acts.0.log
+start_acts (start_phase.Begin page) w p turn v q acts = start_parts (starting.after_begin page w p) turn v q acts ∙ log_same w.member _ p.logs refl
+
+start_goes : (w : StartWork) (p : Owned) (turn : StartTurn) (v : StartWork) (q : Owned) → starting.GoesOn w p (Ok turn) v q → tellers q ≡ tellers p
+start_goes w p turn v q (inl given) = ap tellers given.parts_are
+start_goes w p turn v q (inr (inl lacks)) = ap tellers lacks.parts_are
+start_goes w p turn v q (inr (inr acted)) = start_acts w.phase (record w { walk = acted.walk }) p turn v q acted.acts
+
+start_at : (phase : StartPhase) (w : StartWork) (p : Owned) (turn : StartTurn) (v : StartWork) (q : Owned) → starting.NextAt phase w p (Ok turn) v q → tellers q ≡ tellers p
+start_at start_phase.Check w p turn v q next = start_parts (starting.after_check w p) turn v q next ∙ check_tells (manager_in w.member p.managers).up w p
+start_at start_phase.Low w p turn v q next = start_parts (starting.after_low w p) turn v q next
+start_at start_phase.Read w p turn v q next = start_goes w p turn v q next
+start_at (start_phase.Begin page) w p turn v q next = start_goes w p turn v q next
+
+started_parts : (said : Option Reply) (d : Directive) (work : StartWork) (q : Owned) (s : State) → (started_as said d work q s).parts ≡ q
+started_parts None d work q s = refl
+started_parts (Some said) d work q s = refl
+
+start_tells : (m : Member) (d : Directive) (s r : State) → IsStartStep m d s r → tellers r.parts ≡ tellers s.parts
+start_tells m d s r step =
+    ap (λ (x : State). tellers x.parts) step.after ∙ ap tellers (started_parts (start_reply m step.turn) d step.work step.parts s)
+    ∙ start_at (start_before m s).phase (start_before m s) s.parts step.turn step.work step.parts step.next
+
+peer_parts : (next : NextOfPeer) (turn : PeerTurn) (v : PeerWork) (q : Owned) → record { turn = turn; work = v; parts = q } ≡ next → tellers q ≡ tellers next.parts
+peer_parts next turn v q is = ap (λ (x : NextOfPeer). tellers x.parts) is
+
+find_tells : (phase : Option PeerPhase) (w : PeerWork) (p : Owned) → tellers (peer.after_find phase w p).parts ≡ tellers p
+find_tells None w p = refl
+find_tells (Some phase) w p = refl
+
+peer_acts : (life : FailedLife) (stage : Stage) (w : PeerWork) (p : Owned) (turn : PeerTurn) (v : PeerWork) (q : Owned) → peer.Acts life stage w p (Ok turn) v q → tellers q ≡ tellers p
+peer_acts life Read w p turn v q acts = read_tells life.member p q acts.0.others acts.0.log
+peer_acts life (Connect s) w p turn v q acts = peer_parts (peer.after_connect life s w p) turn v q acts
+peer_acts life (Search connection after) w p turn v q acts = peer_parts (peer.after_search life connection after w p) turn v q acts
+peer_acts life (Settle connection found) w p turn v q acts = peer_parts (peer.after_settle life connection found w p) turn v q acts
+peer_acts life Resolve w p turn v q acts = peer_parts (peer.after_resolve life w p) turn v q acts
+
+peer_goes : (life : FailedLife) (stage : Stage) (w : PeerWork) (p : Owned) (turn : PeerTurn) (v : PeerWork) (q : Owned) → peer.GoesOn life stage w p (Ok turn) v q → tellers q ≡ tellers p
+peer_goes life stage w p turn v q (inl given) = ap tellers given.parts_are
+peer_goes life stage w p turn v q (inr (inl lacks)) = ap tellers lacks.parts_are
+peer_goes life stage w p turn v q (inr (inr acted)) = peer_acts life stage (record w { walk = acted.walk }) p turn v q acted.acts
+
+peer_at : (skip : List (Member × Incarnation)) (phase : PeerPhase) (w : PeerWork) (p : Owned) (turn : PeerTurn) (v : PeerWork) (q : Owned) → peer.NextAt skip phase w p (Ok turn) v q → tellers q ≡ tellers p
+peer_at skip Find w p turn v q next = let found = peer.found_phase (first_open skip p.repo.lives) in peer_parts (peer.after_find found w p) turn v q next ∙ find_tells found w p
+peer_at skip (Low life) w p turn v q next = peer_parts (peer.after_low life w p) turn v q next
+peer_at skip (At life stage) w p turn v q next = peer_goes life stage w p turn v q next
+
+peer_tells : (m : Member) (s r : State) → IsPeerStep m s r → tellers r.parts ≡ tellers s.parts
+peer_tells m s r step =
+    ap (λ (x : State). tellers x.parts) step.after ∙ peer_at (peer_before m s).given_up (peer_work_before m s).phase (peer_work_before m s) s.parts step.steps.turn step.steps.work step.parts step.steps.next
+
+-- ---- a step
+
 after_at : (m : Member) (t : TaskNo) (d : Directive) (before work : Work) (result : Result Turn StepError) (q : Owned) (s : State) (step : Step) (r : State) → NextWork before s.parts result work q → IsAfter m t d result work q s step r
     → tellers r.parts ≡ tellers s.parts
 after_at m t d before work (Ok turn.More) q s step r next after = ap (λ (x : State). tellers x.parts) after.1 ∙ work_at s.parts q before work turn.More next
 after_at m t d before work (Ok (turn.Ended said)) q s step r next after = ap (λ (x : State). tellers x.parts) after.1 ∙ work_at s.parts q before work (turn.Ended said) next
 after_at m t d before work (Ok (turn.Waits cause)) q s step r next after = ap (λ (x : State). tellers x.parts) after.1
-after_at m t d before work (Err LogFailed) q s step r next after = ap (λ (x : State). tellers x.parts) after.1 ∙ failed_work s.parts q before work next
+after_at m t d before work (Err LogFailed) q s step r next after = end_tells m (with_hand m t (Some work) q s) r after.1 ∙ failed_work s.parts q before work next
 after_at m t d before work (Err NoMemory) q s step r next after = absurd after
 
 work_steps : (s r : State) (m : Member) (t : TaskNo) (d : Directive) (before : Option Work) (step : Step) → WorkSteps m t d before s step r → tellers r.parts ≡ tellers s.parts
 work_steps s r m t d None step steps = absurd steps
 work_steps s r m t d (Some before) step steps = after_at m t d before steps.work steps.result steps.parts s step r steps.next steps.after
 
--- ---- a step
+request_steps : (s r : State) (m : Member) (t : TaskNo) (d : Directive) (due : Bool) (step : Step) → RequestSteps due m t d s step r → tellers r.parts ≡ tellers s.parts
+request_steps s r m t d true step steps = ap (λ (x : State). tellers x.parts) steps.1
+request_steps s r m t d false step steps = work_steps s r m t d (work_before m t d s) step steps
+
+crash_steps : (s r : State) (m : Member) (d : Directive) (up : Bool) → CrashSteps up m d s r → tellers r.parts ≡ tellers s.parts
+crash_steps s r m d true steps = ap (λ (x : State). tellers x.parts) steps.answered ∙ end_tells m s steps.ended steps.ends
+crash_steps s r m d false steps = ap (λ (x : State). tellers x.parts) steps
 
 asked_steps : (s r : State) (who : Actor) (d : Directive) (a : Asked) (step : Step) → StepAsked who d a s step r → tellers r.parts ≡ tellers s.parts
-asked_steps s r who d (asks.Work m t) step steps = work_steps s r m t d (work_before m t d s) step steps
+asked_steps s r who d (asks.Work m t) step steps = request_steps s r m t d (is_due m t s.due) step steps
 asked_steps s r who d (asks.Until other n) step steps = ap (λ (x : State). tellers x.parts) steps.1
+asked_steps s r who d (asks.Crash m pick) step steps = crash_steps s r m d (is_member_up m s) steps.1
+asked_steps s r who d (asks.Start m) step steps = start_tells m d s r steps.1
 asked_steps s r who d asks.Later step steps = ap (λ (x : State). tellers x.parts) steps.1
 
 unless_steps : (s r : State) (who : Actor) (d : Directive) (cause : Option Cause) (step : Step) → StepUnless who d cause s step r → tellers r.parts ≡ tellers s.parts
@@ -230,5 +330,13 @@ steps_at : (s r : State) (who : Actor) (next : Option Directive) (step : Step) �
 steps_at s r who None step steps = ap (λ (x : State). tellers x.parts) steps.1
 steps_at s r who (Some d) step steps = unless_steps s r who d (cause_of who (asked who d) s) step steps
 
+system_steps : (s r : State) (m : Member) (works : Bool) (step : Step) → SystemSteps works m s step r → tellers r.parts ≡ tellers s.parts
+system_steps s r m true step steps = peer_tells m s r steps.1
+system_steps s r m false step steps = ap (λ (x : State). tellers x.parts) steps.1
+
+steps_as : (s r : State) (who : Actor) (system : Option Member) (step : Step) → StepAs system who s step r → tellers r.parts ≡ tellers s.parts
+steps_as s r who (Some m) step steps = system_steps s r m (has_work m s) step steps
+steps_as s r who None step steps = steps_at s r who (next_of who s.courses) step steps
+
 pub step_leaves_telling : (s r : State) (who : Actor) (step : Step) → IsStep who s step r → AreTelling r.parts → AreTelling s.parts
-step_leaves_telling s r who step steps = telling_of s.parts r.parts (steps_at s r who (next_of who s.courses) step steps)
+step_leaves_telling s r who step steps = telling_of s.parts r.parts (steps_as s r who (system_of who) step steps)

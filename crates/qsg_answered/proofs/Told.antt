@@ -1,5 +1,5 @@
 -- what a course tells, once it has an answer more and the history has gone on
-use Rattle.std.proofs.Common.{◌≡◌, ℕ, List, [], ◌∷◌, ◌++◌, length, Option, Some, None, refl, sym, ap, subst, ◌∙◌, arith, append-nil, length-append}
+use Rattle.std.proofs.Common.{◌≡◌, ℕ, Bool, true, false, cond, true≢false, List, [], ◌∷◌, ◌++◌, length, Option, Some, None, refl, sym, ap, subst, ◌∙◌, arith, append-nil, length-append}
 use Rattle.std.specs.Prelude.{slice_get, fold}
 use Rattle.std.specs.List.{zip, AllByRecursion}
 use Rattle.std.proofs.lemmas.List.{take-append-le}
@@ -23,8 +23,10 @@ use Rattle.qsg_requests.specs.declared.transcript.Answer.{Answer}
 use Rattle.qsg_requests.specs.declared.words.Request.{Request}
 use Rattle.qsg_requests.specs.declared.words.Request.TheVariants as request
 use Rattle.qsg_agenda.specs.Courses.{Course, next_in, with_answer}
-use Rattle.qsg_answered.specs.Telling.{requested, pending_after, with_answered, told, pending}
-use Rattle.qsg_answered.specs.Fits.{IsCommitted, IsRead, EndsRequest, EndsAsked, AllFit, FitsCourse}
+use Rattle.qsg_step.specs.declared.asked.Asked.{Asked}
+use Rattle.qsg_step.specs.Asking.{asked}
+use Rattle.qsg_answered.specs.Telling.{requested, is_broken, pending_after, with_answered, told, pending}
+use Rattle.qsg_answered.specs.Fits.{IsCommitted, IsRead, EndsRequest, EndsUnlessBroken, EndsAsked, AllFit, FitsCourse}
 
 -- ---- one answer more
 
@@ -47,12 +49,17 @@ pending_more objects c d a next = ap (fold (with_answered objects c.actor) []) (
 pub pending_kept : (objects : Registry) (ops : List (StructNo × Op)) (r : Reply) → pending_after objects ops None r ≡ ops
 pending_kept objects ops r = append-nil ops
 
+-- a refusal that isn't 2009 leaves it too
+pub kept_refused : {X : Type 0} (ops : List X) (b : Bool) → b ≡ false → cond b [] (ops ++ []) ≡ ops
+kept_refused ops true whole = absurd (true≢false whole)
+kept_refused ops false whole = append-nil ops
+
 fit_push : (objects : Registry) (h : List Item) (who : Actor) (ops : List (StructNo × Op)) (l : List (Directive × Answer)) (d : Directive) (a : Answer) → AllFit objects h who ops l
-    → EndsAsked objects h (fold (with_answered objects who) ops l) d a (requested who d) → AllFit objects h who ops (l ++ (d, a) ∷ [])
+    → EndsAsked objects h (fold (with_answered objects who) ops l) (asked who d) a (requested who d) → AllFit objects h who ops (l ++ (d, a) ∷ [])
 fit_push objects h who ops [] d a each last = (last, tt)
 fit_push objects h who ops ((e, b) ∷ l) d a each last = (each.0, fit_push objects h who (with_answered objects who ops (e, b)) l d a each.1 last)
 
-pub fits_more : (objects : Registry) (h : List Item) (c : Course) (d : Directive) (a : Answer) → next_in c ≡ Some d → FitsCourse objects h c → EndsAsked objects h (pending objects c) d a (requested c.actor d) → FitsCourse objects h (with_answer a c)
+pub fits_more : (objects : Registry) (h : List Item) (c : Course) (d : Directive) (a : Answer) → next_in c ≡ Some d → FitsCourse objects h c → EndsAsked objects h (pending objects c) (asked c.actor d) a (requested c.actor d) → FitsCourse objects h (with_answer a c)
 fits_more objects h c d a next each last = subst (AllFit objects h c.actor []) (sym (told_more c d a next)) (fit_push objects h c.actor [] (told c) d a each last)
 
 pub all_push : {X : Type 0} (P : X → Type 0) (xs : List X) (x : X) → AllByRecursion P xs → P x → AllByRecursion P (xs ++ x ∷ [])
@@ -80,13 +87,27 @@ ends_longer objects h k ops at (request.Get queue select) (reply.Refused reason)
 ends_longer objects h k ops at request.Backout (reply.Unit unit count) ends = ends
 ends_longer objects h k ops at asked r ends = absurd ends
 
-asked_longer : (objects : Registry) (h k : List Item) (ops : List (StructNo × Op)) (d : Directive) (a : Answer) (asked : Option Request) → EndsAsked objects h ops d a asked → EndsAsked objects (h ++ k) ops d a asked
-asked_longer objects h k ops d a None ends = ends
-asked_longer objects h k ops d a (Some asked) ends = ends_longer objects h k ops a.at asked a.reply ends
+unless_longer : (objects : Registry) (h k : List Item) (ops : List (StructNo × Op)) (at : ℕ) (request : Request) (r : Reply) (broken : Bool) → EndsUnlessBroken broken objects h ops at request r → EndsUnlessBroken broken objects (h ++ k) ops at request r
+unless_longer objects h k ops at request r true ends = ends
+unless_longer objects h k ops at request r false ends = ends_longer objects h k ops at request r ends
+
+asked_longer : (objects : Registry) (h k : List Item) (ops : List (StructNo × Op)) (other : Asked) (a : Answer) (request : Option Request) → EndsAsked objects h ops other a request → EndsAsked objects (h ++ k) ops other a request
+asked_longer objects h k ops other a None ends = ends
+asked_longer objects h k ops other a (Some request) ends = unless_longer objects h k ops a.at request a.reply (is_broken a.reply) ends
 
 all_longer : (objects : Registry) (h k : List Item) (who : Actor) (ops : List (StructNo × Op)) (l : List (Directive × Answer)) → AllFit objects h who ops l → AllFit objects (h ++ k) who ops l
 all_longer objects h k who ops [] each = tt
-all_longer objects h k who ops ((d, a) ∷ l) each = (asked_longer objects h k ops d a (requested who d) each.0, all_longer objects h k who (with_answered objects who ops (d, a)) l each.1)
+all_longer objects h k who ops ((d, a) ∷ l) each = (asked_longer objects h k ops (asked who d) a (requested who d) each.0, all_longer objects h k who (with_answered objects who ops (d, a)) l each.1)
 
 pub fits_longer : (objects : Registry) (h k : List Item) (c : Course) → FitsCourse objects h c → FitsCourse objects (h ++ k) c
 fits_longer objects h k c each = all_longer objects h k c.actor [] (told c) each
+
+-- ---- more answers, whatever they are
+
+zip_grows : {A B : Type 0} (ds : List A) (answers : List B) (a : B) → (more : List (A × B)) × (zip ds (answers ++ a ∷ []) ≡ zip ds answers ++ more)
+zip_grows [] answers a = ([], refl)
+zip_grows (d ∷ ds) [] a = ((d, a) ∷ zip ds [], refl)
+zip_grows (d ∷ ds) (b ∷ answers) a = let rest = zip_grows ds answers a in (rest.0, ap (λ l. (d, b) ∷ l) rest.1)
+
+pub told_grows : (c : Course) (a : Answer) → (more : List (Directive × Answer)) × (told (with_answer a c) ≡ told c ++ more)
+told_grows c a = zip_grows c.directives c.answers a

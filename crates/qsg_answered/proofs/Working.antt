@@ -1,5 +1,5 @@
 -- each step of a request, of whatever kind
-use Rattle.std.proofs.Common.{◌≡◌, ℕ, List, true, Some, Ok, Err, inl, refl, sym, ap, subst}
+use Rattle.std.proofs.Common.{◌≡◌, ℕ, List, true, Some, Ok, Err, refl, sym, ap, subst}
 use Rattle.std.specs.List.{AllByRecursion}
 use Rattle.qsg_num.specs.declared.seats.Member.{Member}
 use Rattle.qsg_num.specs.declared.seats.StructNo.{StructNo}
@@ -11,8 +11,12 @@ use Rattle.qsg_requests.specs.declared.words.Request.TheVariants as request
 use Rattle.qsg_group.specs.declared.tasks.Task.{Task}
 use Rattle.qsg_manager.specs.Storage.{task_at}
 use Rattle.qsg_logs.specs.Held.{is_open}
+use Rattle.qsg_logs.specs.Kept.{KeptLog, log_in, with_log}
 use Rattle.qsg_parts.specs.Owned.{Owned, HasMember}
 use Rattle.qsg_steady.specs.Steady.{IsLawful, IsSteady}
+use Rattle.qsg_requests.specs.declared.words.PutWords.{PutWords}
+use Rattle.qsg_put.specs.declared.phases.Phase.{Phase as PutPhase}
+use Rattle.qsg_put.specs.declared.phases.Phase.TheVariants as put_phase
 use Rattle.qsg_put.specs.Steps.{Next as NextPut}
 use Rattle.qsg_put.specs.Works.{Work as PutWork}
 use Rattle.qsg_get.specs.declared.phases.Phase.{Phase as GetPhase}
@@ -28,23 +32,23 @@ use Rattle.qsg_commit.specs.Works.{Work as EndWork}
 use Rattle.qsg_works.specs.declared.work.Work.{Work}
 use Rattle.qsg_works.specs.declared.work.Work.TheVariants.{Put, Get, Commit}
 use Rattle.qsg_works.specs.Steps.{begun, NextWork}
-use Rattle.qsg_fit.specs.Fits.{FitsGet, member_of, task_of}
+use Rattle.qsg_fit.specs.Fits.{FitsPut, FitsGet, member_of, task_of}
 use Rattle.qsg_fit.specs.Outcomes.{FitsEnd}
-use Rattle.qsg_fit.specs.Requests.{IsOwnEnd, IsRequestOf}
+use Rattle.qsg_fit.specs.Requests.{IsOwnEnd, IsRequestOf, has_end_begun, has_begun}
 use Rattle.qsg_steady.specs.Standing.{Stand, stand}
 use Rattle.qsg_answered.specs.Fits.{HoldsEnd, Holds, AreInside}
 use Rattle.qsg_answered.proofs.Committing.{in_phase, EndMoves, latch_moves, page_moves}
 use Rattle.qsg_answered.proofs.Ending.{end_is, settle_moves, publish_moves, undo_moves, give_up_moves}
 use Rattle.qsg_answered.proofs.Gets.{get_moves}
-use Rattle.qsg_answered.proofs.Outcomes.{still, Goes, Moves}
-use Rattle.qsg_answered.proofs.Puts.{put_moves}
+use Rattle.qsg_answered.proofs.Outcomes.{Moves}
+use Rattle.qsg_answered.proofs.Puts.{HasPutUnit, put_moves}
 
 -- what the lemmas ask of a request
 abbrev IsReadyEnd : Member → Task → EndPhase → Type 0
 IsReadyEnd m task phase = IsOwnEnd m phase × FitsEnd task phase
 
 abbrev pub IsReady : Work → Owned → Type 0
-IsReady (Put w) p = HasMember w.member p
+IsReady (Put w) p = HasMember w.member p × HasPutUnit (task_at w.member w.task p.managers) w.phase
 IsReady (Get w) p = HasMember w.member p × IsOwn w.member w.phase
 IsReady (Commit w) p = HasMember w.member p × IsReadyEnd w.member (task_at w.member w.task p.managers) w.phase
 
@@ -53,25 +57,30 @@ own_get m s get_phase.Check fits = tt
 own_get m s (get_phase.Connect u terms) fits = fits.own
 own_get m s (get_phase.Take u terms epoch) fits = fits.own
 
+own_put : (m : Member) (words : PutWords) (s : Stand) (phase : PutPhase) → FitsPut m words s phase → HasPutUnit s.task phase
+own_put m words s put_phase.Check fits = tt
+own_put m words s (put_phase.Connect u terms) fits = tt
+own_put m words s (put_phase.Write u terms epoch) fits = ap (λ (z : Task). z.unit) fits.holds
+
 -- a request that fits is ready
 pub ready_of : (work : Work) (p : Owned) → IsRequestOf work p → IsReady work p
-ready_of (Put w) p fits = fits.member
+ready_of (Put w) p fits = (fits.member, own_put w.member w.words (stand w.member w.task p) w.phase fits.stands)
 ready_of (Get w) p fits = (fits.member, own_get w.member (stand w.member w.task p) w.phase fits.stands)
 ready_of (Commit w) p fits = (fits.member, (fits.own, fits.stands))
 
 -- so is one before its first step, where its task's unit is open
 pub ready_first : (m : Member) (t : TaskNo) (asked : Request) (p : Owned) → HasMember m p → is_open (task_at m t p.managers).stage ≡ true → IsReady (begun m t asked) p
-ready_first m t (request.Put words) p has ready = has
+ready_first m t (request.Put words) p has ready = (has, tt)
 ready_first m t (request.Get queue select) p has ready = (has, tt)
 ready_first m t request.Commit p has ready = (has, (tt, ready))
 ready_first m t request.Backout p has ready = (has, (tt, ready))
 
 -- ---- a step that doesn't fail
 
-put_next : (a b : ℕ) (ops : List (StructNo × Op)) (p q : Owned) (old new : PutWork) (turn : Turn) → IsSteady a b p → HasMember old.member p → Holds p.objects p.history.items (task_at old.member old.task p.managers) ops (Some (Put old))
+put_next : (a b : ℕ) (ops : List (StructNo × Op)) (p q : Owned) (old new : PutWork) (turn : Turn) → IsSteady a b p → IsReady (Put old) p → Holds p.objects p.history.items (task_at old.member old.task p.managers) ops (Some (Put old))
     → NextWork (Put old) p (Ok turn) (Put new) q → Moves old.member old.task ops (Put old) (Put new) p q turn
-put_next a b ops p q old new turn s has holds next =
-    let made = put_moves a b ops p old s has holds.0 holds.1 in
+put_next a b ops p q old new turn s ready holds next =
+    let made = put_moves a b ops p old s ready.0 holds.0 holds.1 ready.1 in
     let there = subst (λ (x : NextPut). Moves old.member old.task ops (Put old) (Put (record old { phase = x.phase })) p x.parts x.turn) (sym next.1) made in
     subst (λ (x : PutWork). Moves old.member old.task ops (Put old) (Put x) p q turn) (sym next.0) there
 
@@ -109,24 +118,31 @@ work_moves a b ops p q before work turn s l ready inside holds next = absurd nex
 
 -- ---- a page that failed
 
-failed_at : (m : Member) (t : TaskNo) (ops : List (StructNo × Op)) (p q : Owned) (before phase : EndPhase) → HoldsEnd p.history.items (task_at m t p.managers) ops before → NextAt m t before p (Err LogFailed) phase q
-    → Goes m t ops (Commit (in_phase m t before)) (Commit (in_phase m t phase)) p q
-failed_at m t ops p q (Pages u count) phase holds next =
-    subst (λ x. Goes m t ops (Commit (in_phase m t (Pages u count))) (Commit (in_phase m t x)) p q) (sym next.0)
-    (subst (λ x. Goes m t ops (Commit (in_phase m t (Pages u count))) (Commit (in_phase m t (Pages u count))) p x) (sym next.1.parts)
-    (record { move = record { objects = refl; lives = refl; frame = (still m t p).frame; inside = λ each. each }; history = inl refl; holds = holds; counts = λ v. refl }))
-failed_at m t ops p q before phase holds next = absurd next
+-- nothing but a log changed
+pub record HasFailed (before work : Work) (p q : Owned) : Type 0 where
+  pub logs : List KeptLog
+  pub work_is : work ≡ before
+  pub parts_are : q ≡ record p { logs = logs }
+  pub begun : has_begun before ≡ true
 
-pub failed_goes : (ops : List (StructNo × Op)) (p q : Owned) (before work : Work) → Holds p.objects p.history.items (task_at (member_of before) (task_of before) p.managers) ops (Some before) → NextWork before p (Err LogFailed) work q
-    → Goes (member_of before) (task_of before) ops before work p q
-failed_goes ops p q (Commit old) (Commit new) holds next =
-    let same : new ≡ in_phase old.member old.task new.phase = λ i. record { member = next.member i; task = next.task i; phase = new.phase } in
-    subst (λ (x : EndWork). Goes old.member old.task ops (Commit old) (Commit x) p q) (sym same) (failed_at old.member old.task ops p q old.phase new.phase holds next.next)
-failed_goes ops p q (Put old) (Put new) holds next = absurd next
-failed_goes ops p q (Put old) (Get new) holds next = absurd next
-failed_goes ops p q (Put old) (Commit new) holds next = absurd next
-failed_goes ops p q (Get old) (Put new) holds next = absurd next
-failed_goes ops p q (Get old) (Get new) holds next = absurd next
-failed_goes ops p q (Get old) (Commit new) holds next = absurd next
-failed_goes ops p q (Commit old) (Put new) holds next = absurd next
-failed_goes ops p q (Commit old) (Get new) holds next = absurd next
+failed_end : (m : Member) (t : TaskNo) (p q : Owned) (before phase : EndPhase) → NextAt m t before p (Err LogFailed) phase q → (phase ≡ before) × ((logs : List KeptLog) × (q ≡ record p { logs = logs })) × (has_end_begun before ≡ true)
+failed_end m t p q (Pages u count) phase next = (next.0, (with_log u.member (log_in u.member q.logs) p.logs, next.1.parts), refl)
+failed_end m t p q Latch phase next = absurd next
+failed_end m t p q (Settle u count) phase next = absurd next
+failed_end m t p q (Publish u count) phase next = absurd next
+failed_end m t p q GiveUp phase next = absurd next
+failed_end m t p q (Undo u count) phase next = absurd next
+
+pub failed_is : (p q : Owned) (before work : Work) → NextWork before p (Err LogFailed) work q → HasFailed before work p q
+failed_is p q (Commit old) (Commit new) next =
+    let found = failed_end old.member old.task p q old.phase new.phase next.next in
+    let same : new ≡ old = λ i. record { member = next.member i; task = next.task i; phase = found.0 i } in
+    record { logs = found.1.0; work_is = ap (λ (x : EndWork). Commit x) same; parts_are = found.1.1; begun = found.2 }
+failed_is p q (Put old) (Put new) next = absurd next
+failed_is p q (Put old) (Get new) next = absurd next
+failed_is p q (Put old) (Commit new) next = absurd next
+failed_is p q (Get old) (Put new) next = absurd next
+failed_is p q (Get old) (Get new) next = absurd next
+failed_is p q (Get old) (Commit new) next = absurd next
+failed_is p q (Commit old) (Put new) next = absurd next
+failed_is p q (Commit old) (Get new) next = absurd next

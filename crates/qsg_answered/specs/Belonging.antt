@@ -11,6 +11,7 @@ use Rattle.qsg_agenda.specs.Courses.{Course}
 use Rattle.qsg_works.specs.InHand.{work_of}
 use Rattle.qsg_step.specs.States.{State}
 use Rattle.qsg_answered.specs.Telling.{with_answered, told, pending_of, commits_told}
+use Rattle.qsg_answered.specs.Cutting.{WasCutOff}
 use Rattle.qsg_answered.specs.Fits.{commits_now}
 
 -- a COMMIT was answered with the unit, and these operations were pending there
@@ -32,6 +33,11 @@ pub record IsBeingAnswered (u : UnitName) (ops : List (StructNo × Op)) (s : Sta
   pub commits : commits_now u (work_of member task s.works) ≡ true
   pub pending : pending_of s.parts.objects member task s.courses ≡ ops
 
--- the COMMIT was answered, or is in hand
+-- a COMMIT was answered 2009 after the unit was committed, and these operations were pending there
+pub record WasBroken (u : UnitName) (ops : List (StructNo × Op)) (s : State) : Type 0 where
+  pub cut : WasCutOff u s
+  pub pending : fold (with_answered s.parts.objects cut.course.actor) [] cut.before ≡ ops
+
+-- the COMMIT was answered, was answered 2009, or is in hand
 abbrev pub Belongs : UnitName → List (StructNo × Op) → State → Type 0
-Belongs u ops s = WasAnswered u ops s ⊎ IsBeingAnswered u ops s
+Belongs u ops s = WasAnswered u ops s ⊎ (WasBroken u ops s ⊎ IsBeingAnswered u ops s)

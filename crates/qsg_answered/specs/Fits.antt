@@ -1,12 +1,14 @@
 -- The answers of all actors fit their directives and the history.
-use Rattle.std.specs.Prelude.{ℕ, ◌+◌, ◌≡◌, ◌<◌, ◌≤◌, Bool, true, false, List, [], ◌∷◌, length, Option, Some, None, IsSome, option_map, map, count_by, sum_by, take, Contains}
+use Rattle.std.specs.Prelude.{ℕ, ◌+◌, ◌≡◌, ◌<◌, ◌≤◌, Bool, true, false, if◌then◌else◌, List, [], ◌∷◌, length, Option, Some, None, IsSome, option_map, map, count_by, sum_by, take, Contains}
 use Rattle.std.specs.List.{AllByRecursion}
 use Rattle.qsg_num.specs.declared.seats.Member.{Member}
 use Rattle.qsg_num.specs.declared.seats.StructNo.{StructNo}
 use Rattle.qsg_num.specs.declared.seats.TaskNo.{TaskNo}
+use Rattle.qsg_num.specs.declared.seats.TaskNo.TheVariants as task
 use Rattle.qsg_num.specs.declared.ids.Actor.{Actor}
 use Rattle.qsg_num.specs.declared.ids.UnitName.{UnitName}
 use Rattle.qsg_num.specs.Ids.{same_unit}
+use Rattle.qsg_num.specs.Seats.{member_number}
 use Rattle.qsg_msg.specs.declared.message.Message.{Message}
 use Rattle.qsg_model.specs.declared.history.Item.{Item}
 use Rattle.qsg_model.specs.declared.history.Item.TheVariants.{Unit as UnitOf}
@@ -16,10 +18,8 @@ use Rattle.qsg_model.specs.Past.{held_at, is_unit}
 use Rattle.qsg_lists.specs.declared.parts.Entry.{Entry}
 use Rattle.qsg_lists.specs.Structures.{ListStructure}
 use Rattle.qsg_objects.specs.declared.directives.Directive.{Directive}
-use Rattle.qsg_objects.specs.declared.directives.Directive.TheVariants as directive
 use Rattle.qsg_objects.specs.Registry.{Registry, queue_named}
-use Rattle.qsg_repo.specs.Calls.{is_unresolved}
-use Rattle.qsg_requests.specs.declared.replies.Reason.TheVariants.{NotYet}
+use Rattle.qsg_requests.specs.declared.replies.Reason.TheVariants as reason
 use Rattle.qsg_requests.specs.declared.replies.Reply.{Reply}
 use Rattle.qsg_requests.specs.declared.replies.Reply.TheVariants as reply
 use Rattle.qsg_requests.specs.declared.transcript.Answer.{Answer}
@@ -42,8 +42,14 @@ use Rattle.qsg_commit.specs.declared.phases.Phase.TheVariants as end_phase
 use Rattle.qsg_works.specs.declared.work.Work.{Work}
 use Rattle.qsg_works.specs.declared.work.Work.TheVariants.{Put, Get, Commit}
 use Rattle.qsg_works.specs.InHand.{work_of}
-use Rattle.qsg_step.specs.States.{State}
-use Rattle.qsg_answered.specs.Telling.{requested, with_answered, told, pending_of, commits_told}
+use Rattle.qsg_step.specs.declared.asked.Asked.{Asked}
+use Rattle.qsg_step.specs.declared.asked.Asked.TheVariants as asks
+use Rattle.qsg_step.specs.Asking.{asked}
+use Rattle.qsg_step.specs.States.{State, is_due}
+use Rattle.qsg_answered.specs.Telling.{requested, is_broken, with_answered, told, pending_of, commits_told, starts_in}
+use Rattle.qsg_answered.specs.Cutting.{WasCutOff, AreToldOf}
+use Rattle.qsg_answered.specs.Timing.{AreTimed}
+use Rattle.qsg_answered.specs.Systems.{AreSystemsFitting}
 
 -- ---- one answer
 
@@ -86,26 +92,33 @@ EndsRequest objects h ops at request.Commit (reply.Unit unit count) = EndsCommit
 EndsRequest objects h ops at request.Backout (reply.Unit unit count) = EndsBackout ops unit count
 EndsRequest objects h ops at asked r = ⊥
 
--- a WAIT is done; every other directive that asks for no request isn't built yet
-abbrev pub is_wait : Directive → Bool
-is_wait (directive.Wait other answers) = true
-is_wait d = false
+-- a 2009 may end any request
+abbrev pub EndsUnlessBroken : Bool → Registry → List Item → List (StructNo × Op) → ℕ → Request → Reply → Type 0
+EndsUnlessBroken true objects h ops at asked r = Unit {0}
+EndsUnlessBroken false objects h ops at asked r = EndsRequest objects h ops at asked r
 
-abbrev pub EndsOther : Bool → Reply → Type 0
-EndsOther true reply.Done = Unit {0}
-EndsOther false (reply.Refused NotYet) = Unit {0}
-EndsOther wait r = ⊥
+-- How a directive ends that asks for no request. A WAIT is done. A CRASH is done, or its member is down; a START gives
+-- its member an incarnation, or the member is up, or its log can't be read. All others aren't built yet.
+abbrev pub EndsOther : Asked → Reply → Type 0
+EndsOther (asks.Until other answers) reply.Done = Unit {0}
+EndsOther (asks.Crash m pick) reply.Done = Unit {0}
+EndsOther (asks.Crash m pick) (reply.Refused reason.Down) = Unit {0}
+EndsOther (asks.Start m) (reply.Started incarnation) = 1 < incarnation.number
+EndsOther (asks.Start m) (reply.Refused reason.Up) = Unit {0}
+EndsOther (asks.Start m) (reply.Refused (reason.LogFault n why)) = n ≡ m
+EndsOther asks.Later (reply.Refused reason.NotYet) = Unit {0}
+EndsOther other r = ⊥
 
-abbrev pub EndsAsked : Registry → List Item → List (StructNo × Op) → Directive → Answer → Option Request → Type 0
-EndsAsked objects h ops d a (Some asked) = EndsRequest objects h ops a.at asked a.reply
-EndsAsked objects h ops d a None = EndsOther (is_wait d) a.reply
+abbrev pub EndsAsked : Registry → List Item → List (StructNo × Op) → Asked → Answer → Option Request → Type 0
+EndsAsked objects h ops other a (Some asked) = EndsUnlessBroken (is_broken a.reply) objects h ops a.at asked a.reply
+EndsAsked objects h ops other a None = EndsOther other a.reply
 
 -- ---- all answers of a course
 
 -- each answer fits its directive, the history, and what was pending before it
 abbrev pub AllFit : Registry → List Item → Actor → List (StructNo × Op) → List (Directive × Answer) → Type 0
 AllFit objects h who ops [] = Unit {0}
-AllFit objects h who ops ((d, a) ∷ answers) = EndsAsked objects h ops d a (requested who d) × AllFit objects h who (with_answered objects who ops (d, a)) answers
+AllFit objects h who ops ((d, a) ∷ answers) = EndsAsked objects h ops (asked who d) a (requested who d) × AllFit objects h who (with_answered objects who ops (d, a)) answers
 
 abbrev pub FitsCourse : Registry → List Item → Course → Type 0
 FitsCourse objects h c = AllFit objects h c.actor [] (told c)
@@ -139,6 +152,17 @@ Holds objects h task ops None = task.ops ≡ ops
 Holds objects h task ops (Some (Put work)) = (task.ops ≡ ops) × HasTerms objects work.words work.phase
 Holds objects h task ops (Some (Get work)) = task.ops ≡ ops
 Holds objects h task ops (Some (Commit work)) = HoldsEnd h task ops work.phase
+
+-- the member ended while the task's unit had an operation, and the task wasn't told yet: it holds no unit, and has no
+-- request in progress
+pub record HasLostUnit (task : Task) (ops : List (StructNo × Op)) (work : Option Work) : Type 0 where
+  pub free : task.unit ≡ None
+  pub idle : work ≡ None
+  pub some : 0 < length ops
+
+abbrev pub HoldsUnlessDue : Bool → Registry → List Item → Task → List (StructNo × Op) → Option Work → Type 0
+HoldsUnlessDue true objects h task ops work = HasLostUnit task ops work
+HoldsUnlessDue false objects h task ops work = Holds objects h task ops work
 
 -- ---- units that were backed out
 
@@ -179,9 +203,9 @@ commits_now u (Some (Put work)) = false
 commits_now u (Some (Get work)) = false
 commits_now u (Some (Commit work)) = has_committed u work.phase
 
--- how many COMMITs the unit belongs to, answered or in hand
-abbrev pub commits_of : UnitName → List Course → List (Option Work) → ℕ
-commits_of u courses works = sum_by (commits_in u) courses + count_by (commits_now u) works
+-- how many COMMITs the unit belongs to: answered with it, answered 2009 after it was committed, or in hand
+abbrev pub commits_of : (UnitName → Bool) → UnitName → List Course → List (Option Work) → ℕ
+commits_of cut_off u courses works = sum_by (commits_in u) courses + count_by (commits_now u) works + (if cut_off u then 1 else 0)
 
 -- ---- bodies
 
@@ -192,21 +216,24 @@ IsInside e = is_outside e.place ≡ false
 abbrev pub AreInside : ListStructure → Type 0
 AreInside structure = AllByRecursion IsInside structure.entries
 
--- ---- members
-
--- no incarnation of a member has failed
-abbrev pub AreUnfailed : Owned → Type 0
-AreUnfailed p = (m : Member) (i : ℕ) → is_unresolved m (record { number = i }) p.repo ≡ false
-
 -- ---- the whole group
 
 -- What all actors were answered is what happened. Each answer fits its directive and the history; what a task was
--- answered and hasn't ended yet is what its unit holds; no unit that was backed out is in the history; and each unit of
--- the history belongs to exactly one COMMIT.
+-- answered and hasn't ended yet is what its unit holds, unless its member ended; no unit that was backed out is in the
+-- history; and each unit of the history belongs to exactly one COMMIT. A unit was cut off where its member ended after it
+-- was committed, and before its COMMIT was answered.
 pub record AreFitting (s : State) : Type 0 where
   pub answers : AllByRecursion (FitsCourse s.parts.objects s.parts.history.items) s.courses
-  pub tasks : (m : Member) (t : TaskNo) → Holds s.parts.objects s.parts.history.items (task_at m t s.parts.managers) (pending_of s.parts.objects m t s.courses) (work_of m t s.works)
+  pub tasks : (m : Member) (t : TaskNo) → HoldsUnlessDue (is_due m t s.due) s.parts.objects s.parts.history.items (task_at m t s.parts.managers) (pending_of s.parts.objects m t s.courses) (work_of m t s.works)
+  -- system tasks make no operation
+  pub none : (m : Member) → pending_of s.parts.objects m task.System s.courses ≡ []
   pub left_out : AllByRecursion (LeavesOut s.parts) s.courses
-  pub once : (u : UnitName) → commits_of u s.courses s.works ≡ count_by (same_unit u) (names s.parts.history.items)
+  pub cut_off : UnitName → Bool
+  pub cut : (u : UnitName) → cut_off u ≡ true → WasCutOff u s
+  pub once : (u : UnitName) → commits_of cut_off u s.courses s.works ≡ count_by (same_unit u) (names s.parts.history.items)
   pub inside : AllByRecursion AreInside s.parts.structures
-  pub unfailed : AreUnfailed s.parts
+  pub told : AreToldOf cut_off s.parts
+  pub timed : AllByRecursion (λ (c : Course). AreTimed 0 (length s.parts.history.items) c.answers) s.courses
+  -- each member had its first incarnation at first, and one more for each START that was answered so
+  pub given : (m : Member) → member_number m ≤ length s.parts.managers → (manager_in m s.parts.managers).incarnation.number ≡ 1 + sum_by (starts_in m) s.courses
+  pub systems : AreSystemsFitting s

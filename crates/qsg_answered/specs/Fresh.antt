@@ -18,6 +18,8 @@ use Rattle.qsg_lists.specs.declared.parts.Mark.TheVariants.{Visible, PutBy, GotB
 use Rattle.qsg_lists.specs.declared.parts.Place.TheVariants.{Inline}
 use Rattle.qsg_lists.specs.Entries.{entry_at}
 use Rattle.qsg_lists.specs.Structures.{is_active, ListStructure}
+use Rattle.qsg_repo.specs.Tables.{Repository}
+use Rattle.qsg_repo.specs.Calls.{is_unresolved}
 use Rattle.qsg_agenda.specs.Courses.{Course}
 use Rattle.qsg_group.specs.Laws.{is_pending}
 use Rattle.qsg_group.specs.Observers.{IsElsewhere}
@@ -40,7 +42,7 @@ pub record IsDelivered (m : Message) (h : List Item) (courses : List Course) : T
   pub put : is_put (key m) ops ≡ true
   pub answered : IsNamed unit courses
 
--- anyone may get the message of the entry, or a unit got it that hasn't ended
+-- anyone may get the message of the entry, or a unit got it that hasn't ended, or whose marks no peer took off yet
 abbrev pub is_shown : Mark → Bool
 is_shown Visible = true
 is_shown (PutBy u) = false
@@ -63,10 +65,17 @@ AreShown s = (m : Message) → is_active (structure_in m.structure s.parts.struc
 abbrev pub IsAtRest : StructNo → State → Type 0
 IsAtRest x s = (m : Member) (t : TaskNo) → AllByRecursion (IsElsewhere x) (task_at m t s.parts.managers).claims
 
--- every entry of a structure may be got by anyone, or is removed
-abbrev pub IsQuiet : ListStructure → Type 0
-IsQuiet structure = (id : EntryId) (e : Entry) → entry_at id structure.entries ≡ Some e → is_pending e.mark ≡ false
+-- the mark is of a unit whose incarnation failed, and isn't resolved yet
+abbrev pub is_unsettled : Mark → Repository → Bool
+is_unsettled Visible repo = false
+is_unsettled (PutBy u) repo = is_unresolved u.member u.incarnation repo
+is_unsettled (GotBy u) repo = is_unresolved u.member u.incarnation repo
+is_unsettled Cleanup repo = false
+
+-- every entry of a structure may be got by anyone, or is removed, but for those of incarnations that aren't resolved
+abbrev pub IsQuiet : Repository → ListStructure → Type 0
+IsQuiet repo structure = (id : EntryId) (e : Entry) → entry_at id structure.entries ≡ Some e → is_pending e.mark ≡ true → is_unsettled e.mark repo ≡ true
 
 -- each structure is quiet once no unit in hand has work on it
 abbrev pub AreQuiet : State → Type 0
-AreQuiet s = (x : StructNo) → IsAtRest x s → IsQuiet (structure_in x s.parts.structures)
+AreQuiet s = (x : StructNo) → IsAtRest x s → IsQuiet s.parts.repo (structure_in x s.parts.structures)

@@ -1,4 +1,9 @@
 pub mod Telling
+pub mod Cutting
+pub mod Timing
+pub mod Systems
 pub mod Fits
 pub mod Fresh
 pub mod Belonging
+pub mod Broken
+pub mod Operated

@@ -12,23 +12,25 @@ ghost use Rattle.qsg_answered.specs.Belonging.{Belongs};
 ghost use Rattle.qsg_answered.specs.Fits.{commits_of, AreFitting};
 ghost use Rattle.qsg_answered.specs.Fresh.{AreShown, AreQuiet};
 
-/// A unit of the history belongs to a COMMIT, answered or in hand, and its operations are those that were pending there.
+/// A unit of the history belongs to a COMMIT, and its operations are those that were pending there. The COMMIT was answered
+/// with it, or was answered 2009 since its member ended after the unit was committed, or is in hand.
 pub fn a_unit_has_what_was_pending()
     ensures { (s : State) (u : UnitName) (ops : List (StructNo × Op)) → IsSound s → AreTelling s.parts → AreFitting s → Contains s.parts.history.items (UnitOf u ops) → Belongs u ops s }
 {}
 
 /// It belongs to exactly one.
 pub fn a_unit_belongs_to_one_commit()
-    ensures { (s : State) (u : UnitName) (ops : List (StructNo × Op)) → IsSound s → AreTelling s.parts → AreFitting s → Contains s.parts.history.items (UnitOf u ops) → commits_of u s.courses s.works ≡ 1 }
+    ensures { (s : State) (u : UnitName) (ops : List (StructNo × Op)) → IsSound s → AreTelling s.parts → (fits : AreFitting s) → Contains s.parts.history.items (UnitOf u ops) → commits_of fits.cut_off u s.courses s.works ≡ 1 }
 {}
 
 /// A message that the history holds, put by a unit whose COMMIT was answered, is in an entry that anyone may get, or that
-/// a unit got which hasn't ended, while its structure is active.
+/// a unit got which hasn't ended or whose mark no peer took off yet, while its structure is active.
 pub fn what_was_delivered_is_shown()
     ensures { (s : State) → IsSound s → AreTelling s.parts → AreFitting s → AreShown s }
 {}
 
-/// Every entry of a structure on which no unit in hand has work may be got by anyone, or is removed.
+/// Every entry of a structure on which no unit in hand has work may be got by anyone, or is removed, or has a mark of an
+/// incarnation that failed and isn't resolved.
 pub fn a_structure_at_rest_has_no_pending_entry()
     ensures { (s : State) → IsSound s → AreTelling s.parts → AreFitting s → AreQuiet s }
 {}

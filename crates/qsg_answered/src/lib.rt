@@ -12,6 +12,7 @@ pub use following::{
     a_unit_has_what_was_pending, what_was_delivered_is_shown,
 };
 pub use laws::{
-    a_step_keeps_answers_fitting, a_step_that_wants_memory_keeps_answers_fitting,
+    a_crash_ends_one_incarnation, a_start_gives_the_next_incarnation, a_step_keeps_answers_fitting,
+    a_step_that_wants_memory_keeps_answers_fitting, a_task_is_told_once_of_an_end_of_its_member,
     answers_of_a_new_group_fit,
 };

@@ -3,11 +3,14 @@ use Rattle.std.proofs.Common.{◌≡◌, ℕ, ◌+◌, ◌<◌, ◌≤◌, lengt
 use Rattle.std.specs.Prelude.{IsSome}
 use Rattle.qsg_num.specs.declared.seats.Member.{Member}
 use Rattle.qsg_num.specs.declared.seats.TaskNo.{TaskNo}
+use Rattle.qsg_num.specs.declared.ids.PageNo.{PageNo}
 use Rattle.qsg_num.specs.declared.ids.UnitName.{UnitName}
 use Rattle.qsg_num.specs.Seats.{member_number, task_number}
 use Rattle.qsg_requests.specs.declared.replies.Turn.{Turn}
 use Rattle.qsg_requests.specs.declared.replies.Turn.TheVariants.{More}
 use Rattle.qsg_logpage.specs.Log.{LogState}
+use Rattle.qsg_repo.specs.Calls.{has_failed, later_page}
+use Rattle.qsg_repo.specs.Tables.{Repository, low_of, with_low}
 use Rattle.qsg_group.specs.declared.tasks.Claim.{Claim}
 use Rattle.qsg_group.specs.declared.tasks.Task.{Task}
 use Rattle.qsg_group.specs.Group.{idle}
@@ -21,14 +24,14 @@ use Rattle.qsg_parts.specs.Owned.{Owned, HasMember}
 use Rattle.qsg_commit.specs.declared.phases.Phase.{Phase}
 use Rattle.qsg_commit.specs.declared.phases.Phase.TheVariants.{Pages, Settle, Publish, Undo}
 use Rattle.qsg_commit.specs.Committing.{is_none, at_log, IsPageStep, IsFailedPage}
-use Rattle.qsg_commit.specs.Ending.{settled_by, settled, is_settled, ended, published}
+use Rattle.qsg_commit.specs.Ending.{settled_by, settled, is_settled, ended, low_page, published}
 use Rattle.qsg_commit.specs.Next.{unit_ended, after_page, after_settle, after_undo}
 use Rattle.qsg_fit.proofs.Opened.{task_stored}
 use Rattle.qsg_works.specs.InHand.{IsOther}
 use Rattle.qsg_pace.specs.Pace.{left_of_run, left_of_end, marks_left}
-use Rattle.qsg_pace.proofs.Looking.{hand_in, hand_other, IsBeside, still_beside, both_beside, tasked_beside, acted_beside}
+use Rattle.qsg_pace.proofs.Looking.{hand_in, hand_other, size_in, size_kept, IsBeside, still_beside, both_beside, tasked_beside, acted_beside}
 use Rattle.qsg_pace.proofs.Requests.{Lowers}
-use Rattle.qsg_pace.proofs.Pages.{page_less, run_some}
+use Rattle.qsg_pace.proofs.Pages.{page_less, run_some, advanced_size}
 use Rattle.qsg_pace.proofs.Marks.{mark_less, hardened_left}
 
 abbrev pub left_at : Member → TaskNo → Phase → Owned → ℕ
@@ -85,10 +88,26 @@ settle_ends p t u count there = record { beside = off.beside; lowers = by (is_se
 -- ---- the end
 
 ended_beside : (p : Owned) (t : TaskNo) (u : UnitName) → IsBeside u.member t p (ended u t p)
-ended_beside p t u = acted_beside u.member t idle (with_ended t u (log_in u.member p.logs)) p.structures p refl
+ended_beside p t u = acted_beside u.member t idle (with_ended t u (log_in u.member p.logs)) p.structures p refl refl
+
+-- a member that tells its low page leaves the incarnations
+low_lives : (m : Member) (page : PageNo) (b : Bool) (repo : Repository) → (cond b repo (with_low m page repo)).lives ≡ repo.lives
+low_lives m page true repo = refl
+low_lives m page false repo = refl
+
+low_starts : (m : Member) (page : PageNo) (b : Bool) (repo : Repository) → (cond b repo (with_low m page repo)).starts ≡ repo.starts
+low_starts m page true repo = refl
+low_starts m page false repo = refl
 
 pub publish_ends : (p : Owned) (t : TaskNo) (u : UnitName) (count : ℕ) → Ends u.member t p (published u t p) (unit_ended u count) (Publish u count) (Publish u count)
-publish_ends p t u count = let end = ended_beside p t u in record { beside = record { tasks = end.tasks; hands = end.hands }; lowers = omega arith }
+publish_ends p t u count =
+    let end = ended_beside p t u in
+    let m = u.member in
+    let page = later_page (low_of m p.repo) (low_page m (ended u t p)) in
+    record {
+      beside = record { tasks = end.tasks; hands = end.hands; sizes = end.sizes; lives = low_lives m page (has_failed m p.repo) p.repo; starts = low_starts m page (has_failed m p.repo) p.repo };
+      lowers = omega arith;
+    }
 
 -- ---- a mark of a unit that is given up; the last one ends it
 
@@ -137,6 +156,9 @@ page_ends p q t u count false there own step =
       beside = record {
         tasks = λ k w other. ap (λ (x : Owned). task_at k w x.managers) step.made;
         hands = λ k w other hardens. ap (λ (x : Owned). hand_in k x.logs) step.made ∙ logged m t p (log_in m q.logs) own k w other hardens;
+        sizes = λ k. ap (λ (x : Owned). size_in k x.logs) step.made ∙ size_kept m (log_in m q.logs) p.logs (ap (λ (l : LogState). l.size) step.written.writer ∙ advanced_size (log_in m p.logs).writer) k;
+        lives = ap (λ (x : Owned). x.repo.lives) step.made;
+        starts = ap (λ (x : Owned). x.repo.starts) step.made;
       };
       lowers = omega (arith, less, now, marks);
     }
@@ -152,6 +174,9 @@ page_ends p q t u count true there own step =
       beside = record {
         tasks = λ k w other. ap (λ (x : Owned). task_at k w x.managers) step.made.parts ∙ acted.tasks k w other;
         hands = λ k w other hardens. ap (λ (x : Owned). hand_in k x.logs) step.made.parts ∙ logged m t p (log_in m q.logs) own k w other hardens;
+        sizes = λ k. ap (λ (x : Owned). size_in k x.logs) step.made.parts ∙ size_kept m (log_in m q.logs) p.logs (ap (λ (l : LogState). l.size) step.written.writer ∙ advanced_size (log_in m p.logs).writer) k;
+        lives = ap (λ (x : Owned). x.repo.lives) step.made.parts;
+        starts = ap (λ (x : Owned). x.repo.starts) step.made.parts;
       };
       lowers = omega (arith, some, marks, left);
     }
@@ -159,6 +184,7 @@ page_ends p q t u count true there own step =
 -- a page that failed leaves as many
 pub record IsStill (m : Member) (t : TaskNo) (p q : Owned) (old new : Phase) : Type 0 where
   pub beside : IsBeside m t p q
+  pub managers : q.managers ≡ p.managers
   pub same : left_at m t new q ≤ left_at m t old p
 
 pub failed_still : (p q : Owned) (m : Member) (t : TaskNo) (u : UnitName) (count : ℕ) → IsWriting m t p → IsFailedPage m p q → IsStill m t p q (Pages u count) (Pages u count)
@@ -169,6 +195,10 @@ failed_still p q m t u count own failed =
       beside = record {
         tasks = λ k w other. ap (λ (x : Owned). task_at k w x.managers) failed.parts;
         hands = λ k w other hardens. ap (λ (x : Owned). hand_in k x.logs) failed.parts ∙ logged m t p (log_in m q.logs) own k w other hardens;
+        sizes = λ k. ap (λ (x : Owned). size_in k x.logs) failed.parts ∙ size_kept m (log_in m q.logs) p.logs (ap (λ (l : LogState). l.size) failed.writer) k;
+        lives = ap (λ (x : Owned). x.repo.lives) failed.parts;
+        starts = ap (λ (x : Owned). x.repo.starts) failed.parts;
       };
+      managers = ap (λ (x : Owned). x.managers) failed.parts;
       same = omega (arith, now, marks);
     }

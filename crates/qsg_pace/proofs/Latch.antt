@@ -44,7 +44,7 @@ use Rattle.qsg_commit.specs.Pending.{pending}
 use Rattle.qsg_fit.proofs.Opened.{opened}
 use Rattle.qsg_fit.proofs.Settling.{pending_unit}
 use Rattle.qsg_pace.specs.Pace.{left_of_run, marks_left, whole}
-use Rattle.qsg_pace.proofs.Looking.{hand_in, hand_other, IsBeside, still_beside, both_beside, tasked_beside}
+use Rattle.qsg_pace.proofs.Looking.{hand_in, hand_other, size_in, size_kept, IsBeside, still_beside, both_beside, tasked_beside}
 use Rattle.qsg_pace.proofs.Requests.{Lowers}
 use Rattle.qsg_pace.proofs.Marks.{all_left}
 use Rattle.qsg_pace.proofs.Pages.{run_bound}
@@ -102,6 +102,9 @@ latch_ends count p q m t u there few free latch =
           | inl same ↦ absurd (true≢false (sym hardens ∙ subst (λ (x : Member). is_hardening (task_at x w p.managers).stage ≡ false) (sym same) (latch_free (manager_in m p.managers).tasks free w)))
           | inr differ ↦ hand_other m k log p.logs differ
         ];
+        sizes = λ k. ap (λ (x : Owned). size_in k x.logs) latch.parts ∙ size_kept m log p.logs refl k;
+        lives = ap (λ (x : Owned). x.repo.lives) latch.parts;
+        starts = ap (λ (x : Owned). x.repo.starts) latch.parts;
       };
       lowers = omega (arith, marks, run, bound, few.claims, few.pages);
     }

@@ -1,4 +1,6 @@
 pub mod Sums
+pub mod Falling
+pub mod Lives
 pub mod Looking
 pub mod Requests
 pub mod Pages
@@ -7,4 +9,9 @@ pub mod Ends
 pub mod Latch
 pub mod Works
 pub mod Places
+pub mod Fewer
+pub mod Most
+pub mod Systems
+pub mod Starting
+pub mod Ending
 pub mod Steps

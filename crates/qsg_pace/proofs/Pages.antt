@@ -33,6 +33,22 @@ page_less log some = by log.hand refl some
     by None is some = absurd (false≢true some)
     by (Some hand) is some = phase_less log hand hand.phase
 
+-- the log has as many pages as before
+by_size : (log : LogState) (hand : Hand) (phase : Phase) → (advanced_by log hand phase).size ≡ log.size
+by_size log hand Fresh = refl
+by_size log hand GateShut = refl
+by_size log hand ShutSafe = refl
+by_size log hand BodyWritten = refl
+by_size log hand BodySafe = refl
+by_size log hand GateWritten = refl
+
+pub advanced_size : (log : LogState) → (advanced log).size ≡ log.size
+advanced_size log = by log.hand
+  where
+    by : (hand : Option Hand) → (elim hand as (λ x. LogState) [ None ↦ log | Some h ↦ advanced_by log h h.phase ]).size ≡ log.size
+    by None = refl
+    by (Some hand) = by_size log hand hand.phase
+
 -- a run in hand has a step left
 pub run_some : (hand : Option Hand) → IsSome hand → 1 ≤ left_of_run hand
 run_some None some = absurd (false≢true some)

@@ -11,7 +11,7 @@ use Rattle.qsg_works.specs.declared.work.Work.{Work}
 use Rattle.qsg_works.specs.InHand.{place, work_of, with_work, IsOther}
 use Rattle.qsg_pace.proofs.Sums.{sum_moved}
 
-member_with : (n : ℕ) → n < 8 → (m : Member) × (member_number m ≡ n + 1)
+pub member_with : (n : ℕ) → n < 8 → (m : Member) × (member_number m ≡ n + 1)
 member_with zero less = (members.One, omega arith)
 member_with (suc zero) less = (members.Two, omega arith)
 member_with (suc (suc zero)) less = (members.Three, omega arith)

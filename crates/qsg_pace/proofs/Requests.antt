@@ -45,7 +45,7 @@ use Rattle.qsg_get.specs.Steps as get
 use Rattle.qsg_get.specs.Works.{IsOwn}
 use Rattle.qsg_works.specs.InHand.{IsOther}
 use Rattle.qsg_pace.specs.Pace.{left_of_put, left_of_get}
-use Rattle.qsg_pace.proofs.Looking.{hand_kept, IsBeside, still_beside, both_beside, logged_beside, tasked_beside, fallen_hand, drawn_beside}
+use Rattle.qsg_pace.proofs.Looking.{hand_kept, size_kept, IsBeside, still_beside, both_beside, logged_beside, tasked_beside, fallen_hand, fallen_size, drawn_beside}
 
 -- a step that goes on leaves fewer, and one that ended a request was one of those that were left
 abbrev pub Lowers : Turn → ℕ → ℕ → Type 0
@@ -96,8 +96,20 @@ put_lowers m t words p (put_phase.Write u terms epoch) =
     let none = no_memory (lost_of s (put.use_of terms epoch)) (room_refusal s (head_of words terms) (Inline words.body) terms.max_depth) (no_room s (head_of words terms) (Inline words.body) terms.max_depth) in
     put_written m t words u terms epoch p (put.refusal_of words terms epoch p) none
 
+-- its check leaves all structures
+reserved_structures : (m : Member) (t : TaskNo) (words : PutWords) (terms : PutTerms) (p : Owned) (r : Result (Unit {0}) NoPages) → (put.after_reserve m t words terms p r).parts.structures ≡ p.structures
+reserved_structures m t words terms p (Err why) = refl
+reserved_structures m t words terms p (Ok done) = refl
+
+checked_structures : (m : Member) (t : TaskNo) (words : PutWords) (p : Owned) (r : Result PutTerms Reason) → (put.after_check m t words p r).parts.structures ≡ p.structures
+checked_structures m t words p (Err reason) = refl
+checked_structures m t words p (Ok terms) = reserved_structures m t words terms p (reserve_answer (put.unit_of m t p.managers) (put.need m t words terms p) (keep m p.repo) (log_in m p.logs).writer)
+
+pub put_structures : (m : Member) (t : TaskNo) (words : PutWords) (p : Owned) → (put.next_at m t words p put_phase.Check).parts.structures ≡ p.structures
+put_structures m t words p = checked_structures m t words p (put_check p.objects words (length (task_at m t p.managers).ops))
+
 put_fallen : (m : Member) (t : TaskNo) (u : UnitName) (p : Owned) → IsBeside m t p (put.fallen m t u p)
-put_fallen m t u p = logged_beside m t (fallen_back t u (put.has_operations m t p.managers) (log_in m p.logs)) p (fallen_hand t u (put.has_operations m t p.managers) (log_in m p.logs))
+put_fallen m t u p = logged_beside m t (fallen_back t u (put.has_operations m t p.managers) (log_in m p.logs)) p (fallen_hand t u (put.has_operations m t p.managers) (log_in m p.logs)) (fallen_size t u (put.has_operations m t p.managers) (log_in m p.logs))
 
 put_named : (unit : Option UnitName) (m : Member) (t : TaskNo) (ms : List Manager) (k : Member) (w : TaskNo) → IsOther m t k w → task_at k w (put.named unit m t ms) ≡ task_at k w ms
 put_named None m t ms k w other = drawn_beside m t (open_task (next_name m ms) [] []) ms k w other
@@ -108,6 +120,9 @@ put_paged m t words terms p (Err why) = still_beside m t p
 put_paged m t words terms p (Ok done) = record {
   tasks = λ k w other. put_named (task_at m t p.managers).unit m t p.managers k w other;
   hands = λ k w other hardens. hand_kept m (with_reserved (put.unit_of m t p.managers) (put.need m t words terms p) (log_in m p.logs)) p.logs refl k;
+  sizes = λ k. size_kept m (with_reserved (put.unit_of m t p.managers) (put.need m t words terms p) (log_in m p.logs)) p.logs refl k;
+  lives = refl;
+  starts = refl;
 }
 
 put_seen : (m : Member) (t : TaskNo) (words : PutWords) (p : Owned) (r : Result PutTerms Reason) → IsBeside m t p (put.after_check m t words p r).parts
@@ -124,7 +139,7 @@ put_refused m t u terms epoch p None = still_beside m t p
 
 put_made : (m : Member) (t : TaskNo) (words : PutWords) (u : UnitName) (terms : PutTerms) (epoch : ℕ) (p : Owned) (refusal : Option WriteWhy) → IsBeside m t p (put.after_write m t words u terms epoch p refusal).parts
 put_made m t words u terms epoch p None =
-    both_beside m t p (put.with_entry m t words u terms epoch p) (put.with_message m t words u terms epoch p) (tasked_beside m t _ _ p) (logged_beside m t (with_record_of t (logged words terms) (log_in m p.logs)) (put.with_entry m t words u terms epoch p) refl)
+    both_beside m t p (put.with_entry m t words u terms epoch p) (put.with_message m t words u terms epoch p) (tasked_beside m t _ _ p) (logged_beside m t (with_record_of t (logged words terms) (log_in m p.logs)) (put.with_entry m t words u terms epoch p) refl refl)
 put_made m t words u terms epoch p (Some why) = put_refused m t u terms epoch p (put.reason_of why)
 
 pub put_beside : (m : Member) (t : TaskNo) (words : PutWords) (p : Owned) (phase : PutPhase) → IsBeside m t p (put.next_at m t words p phase).parts
@@ -158,7 +173,7 @@ get_lowers m t queue select p (get_phase.Take u terms epoch) =
     get_took m t u terms epoch p (lost_of (structure_in terms.structure p.structures) (get.use_of terms epoch)) (found_in (get.use_of terms epoch) queue terms.order select p.structures)
 
 get_fallen : (m : Member) (t : TaskNo) (u : UnitName) (p : Owned) → IsBeside m t p (get.fallen m t u p)
-get_fallen m t u p = logged_beside m t (fallen_back t u (get.has_operations m t p.managers) (log_in m p.logs)) p (fallen_hand t u (get.has_operations m t p.managers) (log_in m p.logs))
+get_fallen m t u p = logged_beside m t (fallen_back t u (get.has_operations m t p.managers) (log_in m p.logs)) p (fallen_hand t u (get.has_operations m t p.managers) (log_in m p.logs)) (fallen_size t u (get.has_operations m t p.managers) (log_in m p.logs))
 
 get_named : (unit : Option UnitName) (m : Member) (t : TaskNo) (ms : List Manager) (k : Member) (w : TaskNo) → IsOther m t k w → task_at k w (get.named unit m t ms) ≡ task_at k w ms
 get_named None m t ms k w other = drawn_beside m t (open_task (next_name m ms) [] []) ms k w other
@@ -169,6 +184,9 @@ get_paged m t terms p (Err why) = still_beside m t p
 get_paged m t terms p (Ok done) = record {
   tasks = λ k w other. get_named (task_at m t p.managers).unit m t p.managers k w other;
   hands = λ k w other hardens. hand_kept m (with_reserved (get.unit_of m t p.managers) (get.need m t p) (log_in m p.logs)) p.logs refl k;
+  sizes = λ k. size_kept m (with_reserved (get.unit_of m t p.managers) (get.need m t p) (log_in m p.logs)) p.logs refl k;
+  lives = refl;
+  starts = refl;
 }
 
 get_seen : (m : Member) (t : TaskNo) (p : Owned) (r : Result GetTerms Reason) → IsBeside m t p (get.after_check m t p r).parts
@@ -184,7 +202,7 @@ get_marked : (t : TaskNo) (u : UnitName) (c : Connection) (e : Entry) (p : Owned
 get_marked t u c e p =
     let m = u.member in
     let q : Owned = record p { structures = with_taken u c (Some e) p.structures; managers = with_found m t c (Some e) p.managers } in
-    both_beside m t p q (get.with_message m t u c e p) (tasked_beside m t _ _ p) (logged_beside m t (fallen_back t u true (with_record_of t (get.logged e.head.persistent) (log_in m p.logs))) q refl)
+    both_beside m t p q (get.with_message m t u c e p) (tasked_beside m t _ _ p) (logged_beside m t (fallen_back t u true (with_record_of t (get.logged e.head.persistent) (log_in m p.logs))) q refl refl)
 
 get_made : (m : Member) (t : TaskNo) (u : UnitName) (terms : GetTerms) (epoch : ℕ) (p : Owned) (lost : Option Lost) (found : Option Entry) → u.member ≡ m → IsBeside m t p (get.after_take m t u terms epoch p lost found).parts
 get_made m t u terms epoch p (Some lost) found own = get_fallen m t u p

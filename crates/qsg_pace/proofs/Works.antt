@@ -148,6 +148,7 @@ work_goes a b p q (Commit old) (Get new) turn s few paced next = absurd next
 
 pub record Fails (m : Member) (t : TaskNo) (p q : Owned) (old new : Work) : Type 0 where
   pub beside : IsBeside m t p q
+  pub managers : q.managers ≡ p.managers
   pub same : left_of q new ≤ left_of p old
 
 pub work_fails : (a b : ℕ) (p q : Owned) (old new : Work) → IsSteady a b p → IsPaced old p → NextWork old p (Err LogFailed) new q → Fails (member_of old) (task_of old) p q old new
@@ -156,7 +157,7 @@ work_fails a b p q (Get old) (Get new) s paced next = absurd next
 work_fails a b p q (Commit old) (Commit new) s paced next =
     let still = end_fails a b p q old.member old.task old.phase new.phase s paced.member paced.own paced.stands next.next in
     let same : left_at new.member new.task new.phase q ≡ left_at old.member old.task new.phase q = λ i. left_at (next.member i) (next.task i) new.phase q in
-    record { beside = still.beside; same = omega (arith, same, still.same) }
+    record { beside = still.beside; managers = still.managers; same = omega (arith, same, still.same) }
 work_fails a b p q (Put old) (Get new) s paced next = absurd next
 work_fails a b p q (Put old) (Commit new) s paced next = absurd next
 work_fails a b p q (Get old) (Put new) s paced next = absurd next

@@ -1,8 +1,13 @@
 -- how many steps are left at most to a group that works its plan
-use Rattle.std.specs.Prelude.{ℕ, ◌+◌, ◌-◌, ◌*◌, ◌^◌, Bool, not, List, length, drop, Option, Some, None, count_by, sum_by}
+use Rattle.std.specs.Prelude.{ℕ, ◌+◌, ◌-◌, ◌*◌, ◌^◌, List, [], ◌∷◌, ◌++◌, length, drop, Option, Some, None, count_by, sum_by}
+use Rattle.qsg_num.specs.declared.seats.Member.{Member}
+use Rattle.qsg_num.specs.declared.ids.Incarnation.{Incarnation}
 use Rattle.qsg_logpage.specs.declared.step.Phase.{Phase as PagePhase}
 use Rattle.qsg_logpage.specs.declared.step.Phase.TheVariants.{Fresh, GateShut, ShutSafe, BodyWritten, BodySafe, GateWritten}
 use Rattle.qsg_logpage.specs.Log.{Hand}
+use Rattle.qsg_repo.specs.declared.lives.Life.{Life}
+use Rattle.qsg_repo.specs.Lives.{is_open, is_unharmed}
+use Rattle.qsg_repo.specs.Tables.{Repository}
 use Rattle.qsg_agenda.specs.Courses.{Course}
 use Rattle.qsg_group.specs.declared.tasks.Task.{Task}
 use Rattle.qsg_group.specs.Observers.{left_by}
@@ -17,6 +22,13 @@ use Rattle.qsg_commit.specs.declared.phases.Phase.{Phase as EndPhase}
 use Rattle.qsg_commit.specs.declared.phases.Phase.TheVariants as end_phase
 use Rattle.qsg_works.specs.declared.work.Work.{Work}
 use Rattle.qsg_works.specs.declared.work.Work.TheVariants.{Put, Get, Commit}
+use Rattle.qsg_start.specs.Works.{Work as StartWork}
+use Rattle.qsg_start.specs.Pace.{left_of_start}
+use Rattle.qsg_peer.specs.declared.phases.Phase.{Phase as PeerPhase}
+use Rattle.qsg_peer.specs.declared.phases.Phase.TheVariants as peer_phase
+use Rattle.qsg_peer.specs.Works.{Work as PeerWork}
+use Rattle.qsg_peer.specs.Pace.{left_of_peer}
+use Rattle.qsg_peers.specs.Peers.{Peer}
 use Rattle.qsg_step.specs.States.{State}
 
 -- ---- the run of a unit
@@ -41,9 +53,10 @@ left_of_run (Some hand) = left_of_page hand.phase + steps_of_page * length (drop
 
 -- ---- a request
 
--- More steps than any one request takes: a unit has fewer than 2^30 marks, and its run fewer than 2^20 pages.
+-- More steps than any one request, START or work of a system task takes: a unit has fewer than 2^30 marks, a log fewer
+-- than 2^20 pages, and the structures of a group have fewer than 2^34 entries.
 abbrev pub whole : ℕ
-whole = 2 ^ 31
+whole = 2 ^ 36
 
 -- a put checks, connects and writes
 abbrev pub left_of_put : PutPhase → ℕ
@@ -77,12 +90,49 @@ left_of p (Put work) = left_of_put work.phase
 left_of p (Get work) = left_of_get work.phase
 left_of p (Commit work) = left_of_end work.phase (task_at work.member work.task p.managers) (log_in work.member p.logs).writer.hand
 
--- ---- the group
-
 -- A task without a request in progress counts a whole one, so that a request that begins lowers the number.
 abbrev pub left_in : Owned → Option Work → ℕ
 left_in p None = whole
 left_in p (Some work) = left_of p work
+
+-- so does the operator without a START in progress
+abbrev pub left_of_starting : Option StartWork → ℕ
+left_of_starting None = whole
+left_of_starting (Some work) = left_of_start work
+
+-- ---- a system task
+
+-- the incarnation that a work has found
+abbrev pub found_at : PeerPhase → List (Member × Incarnation)
+found_at peer_phase.Find = []
+found_at (peer_phase.Low life) = (life.member, life.incarnation) ∷ []
+found_at (peer_phase.At life stage) = (life.member, life.incarnation) ∷ []
+
+abbrev pub found_by : Option PeerWork → List (Member × Incarnation)
+found_by None = []
+found_by (Some work) = found_at work.phase
+
+-- the incarnations that a system task hasn't to find any more: the one on which it works, and those that it gave up
+abbrev pub passed_by : Peer → List (Member × Incarnation)
+passed_by peer = found_by peer.work ++ peer.given_up
+
+-- how many unresolved ones it has still to find
+abbrev pub to_find : List Life → Peer → ℕ
+to_find lives peer = count_by (is_open (passed_by peer)) lives
+
+abbrev pub left_in_hand : Owned → Option PeerWork → ℕ
+left_in_hand p None = 0
+left_in_hand p (Some work) = left_of_peer work p + 1
+
+-- a whole work for each incarnation that it has still to find, and what is left of the one in hand
+abbrev pub left_to_peer : Owned → Peer → ℕ
+left_to_peer p peer = whole * to_find p.repo.lives peer + left_in_hand p peer.work
+
+-- ---- the group
+
+-- what is left of all that is in hand, and of what system tasks have still to find
+abbrev pub work_left : State → ℕ
+work_left s = sum_by (left_in s.parts) s.works + (sum_by (left_to_peer s.parts) s.peers + left_of_starting s.starting)
 
 -- the directives of an actor that aren't answered
 abbrev pub left_to_do : Course → ℕ
@@ -92,11 +142,19 @@ left_to_do c = length c.directives - length c.answers
 abbrev pub unanswered : List Course → ℕ
 unanswered courses = sum_by left_to_do courses
 
--- the members whose log may still fail
-abbrev pub healthy : List Bool → ℕ
-healthy failed = count_by not failed
+-- the incarnations that can still fail
+abbrev pub unharmed : List Life → ℕ
+unharmed lives = count_by (λ (l : Life). is_unharmed l.fate) lives
 
--- Each directive that isn't answered counts a whole request, each task what is left of its request in progress, and each
--- member one until its log failed. An answer takes a directive away and leaves its task without a request.
+-- Answers and ends of members, which alone leave more work: a directive may be a START, and then it gives an incarnation
+-- that can fail.
+abbrev pub events_left : State → ℕ
+events_left s = 2 * unanswered s.courses + unharmed s.parts.repo.lives
+
+-- More than what any of these adds. An incarnation that fails is one more to find for each of eight system tasks, and that
+-- of its member has to find each unresolved one anew; there are no more than the repository can give.
+abbrev pub most_added : Repository → ℕ
+most_added repo = whole * (repo.starts + 9)
+
 abbrev pub left : State → ℕ
-left s = whole * unanswered s.courses + sum_by (left_in s.parts) s.works + healthy s.failed
+left s = events_left s * most_added s.parts.repo + work_left s

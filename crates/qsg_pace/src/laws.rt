@@ -13,7 +13,8 @@ ghost use Rattle.qsg_step.specs.Steps.{IsStep, IsUnmade};
 ghost use Rattle.qsg_sound.specs.Sound.{IsSound, IsAsked};
 ghost use Rattle.qsg_pace.specs.Pace.{unanswered, left};
 
-/// A step that an actor makes, of whatever kind and also where a log fails, leaves fewer steps than before.
+/// A step that an actor makes, of whatever kind, leaves fewer steps than before: also one with which a member ends, or
+/// starts again, and each one of a system task.
 pub fn each_step_that_moves_leaves_less()
     ensures { (s r : State) (who : Actor) → IsSound s → IsStep who s Moved r → left r < left s }
 {}

@@ -23,7 +23,7 @@ place_few m t = omega (arith, member_some m, member_few m, task_few t)
 pub work_same : (m : Member) (t : TaskNo) (hand : Option Work) (works : List (Option Work)) → length works ≡ 40 → work_of m t (with_work m t hand works) ≡ hand
 work_same m t hand works forty = get_or-set_same works (place m t) hand None (omega (arith, place_few m t, forty))
 
-places_differ : (m t k w : ℕ) → 1 ≤ m → 1 ≤ k → t < 5 → w < 5 → (k ≡ m → w ≡ t → ⊥) → (k - 1) * 5 + w ≡ (m - 1) * 5 + t → ⊥
+pub places_differ : (m t k w : ℕ) → 1 ≤ m → 1 ≤ k → t < 5 → w < 5 → (k ≡ m → w ≡ t → ⊥) → (k - 1) * 5 + w ≡ (m - 1) * 5 + t → ⊥
 places_differ m t k w one some few less differ same = differ (omega arith) (omega arith)
 
 pub work_other : (m : Member) (t : TaskNo) (hand : Option Work) (works : List (Option Work)) (k : Member) (w : TaskNo) → IsOther m t k w → work_of k w (with_work m t hand works) ≡ work_of k w works

@@ -1,39 +1,38 @@
 -- more room for the history leaves the group sound
-use Rattle.std.proofs.Common.{◌≡◌, ◌≤◌, List, length, true, Option, Some, None, refl, sym, ap, subst}
-use Rattle.qsg_num.specs.declared.seats.Member.{Member}
-use Rattle.qsg_num.specs.declared.seats.TaskNo.{TaskNo}
-use Rattle.qsg_num.specs.Seats.{member_number}
-use Rattle.qsg_objects.specs.Registry.{Registry}
-use Rattle.qsg_agenda.specs.Courses.{Course}
-use Rattle.qsg_logs.specs.Held.{is_open}
-use Rattle.qsg_manager.specs.declared.managers.Manager.{Manager}
-use Rattle.qsg_manager.specs.Storage.{manager_in, task_at}
+use Rattle.std.proofs.Common.{inl, ◌+◌, ◌≤◌, length, Option, Some, None, refl, sym, ap, subst}
+use Rattle.std.specs.Prelude.{IfSome}
+use Rattle.qsg_repo.specs.Tables.{Repository, low_of}
+use Rattle.qsg_logs.specs.Kept.{log_in}
+use Rattle.qsg_manager.specs.Storage.{manager_in}
 use Rattle.qsg_commit.specs.Committing.{IsSameButRoom}
-use Rattle.qsg_parts.specs.Owned.{Owned}
+use Rattle.qsg_parts.specs.Owned.{Owned, HasMember}
+use Rattle.qsg_start.specs.Works.{Work as StartWork}
+use Rattle.qsg_steady.specs.Standing.{stand}
 use Rattle.qsg_steady.specs.Steady.{IsSteady}
 use Rattle.qsg_steady.proofs.Committing.{roomy_steady}
-use Rattle.qsg_works.specs.declared.work.Work.{Work}
-use Rattle.qsg_works.specs.InHand.{work_of}
-use Rattle.qsg_fit.specs.Outcomes.{IsPlaced}
-use Rattle.qsg_fit.proofs.Requests.{roomy_fits}
 use Rattle.qsg_step.specs.States.{State}
-use Rattle.qsg_sound.specs.Sound.{answers_given, in_progress, IsHand, IsSound, AreLogsKept}
+use Rattle.qsg_sound.specs.Sound.{answers_given, in_progress, starts_left, IsSound, AreTypesKept}
+use Rattle.qsg_sound.specs.Systems.{IsStarting}
+use Rattle.qsg_sound.proofs.Beside.{beside_sound}
+use Rattle.qsg_sound.proofs.EndStep.{structures_ordered}
+use Rattle.qsg_sound.proofs.Keeping.{sound_kept}
+use Rattle.qsg_sound.proofs.Standing.{AreSystemsSound, left_by, starting_kept}
 
-hand_roomy : (m : Member) (t : TaskNo) (held : Option Work) (cs : List Course) (p q : Owned) → IsSameButRoom p q → IsHand m t held cs p → IsHand m t held cs q
-hand_roomy m t None cs p q more free =
-    subst (λ (ms : List Manager). member_number m ≤ length ms → is_open (task_at m t ms).stage ≡ true) (sym (ap (λ (x : Owned). x.managers) more.same)) free
-hand_roomy m t (Some work) cs p q more hand = record { own = hand.own; begun = hand.begun; asked = hand.asked; fits = roomy_fits p q work work hand.fits (refl, more) }
+start_after : (s : State) (q : Owned) → IsSameButRoom s.parts q → (o : Option StartWork) → IfSome o (λ w. IsStarting w s) → IfSome o (λ w. IsStarting w (record s { parts = q }))
+start_after s q more None is = tt
+start_after s q more (Some w) is =
+    starting_kept w s (record s { parts = q }) refl
+    (subst (HasMember w.member) (sym more.same) (record { manager = is.member.manager; log = is.member.log }))
+    (left_by w.member s.parts q (ap (λ (x : Owned). (manager_in w.member x.managers).up) more.same) (ap (λ (x : Owned). log_in w.member x.logs) more.same) (ap (λ (x : Owned). low_of w.member x.repo) more.same)) is
 
-pub room_keeps : (s : State) (q : Owned) → IsSound s → AreLogsKept q → IsSameButRoom s.parts q → IsSound (record s { parts = q })
-room_keeps s q sound kept more = record {
-  right = sound.right;
-  answered = sound.answered;
-  few = sound.few;
-  eight = sound.eight;
-  forty = sound.forty;
+pub room_keeps : (s : State) (q : Owned) → IsSound s → IsSameButRoom s.parts q → AreTypesKept (record s { parts = q }) → AreSystemsSound (record s { parts = q }) → IsSound (record s { parts = q })
+room_keeps s q sound more kept systems = beside_sound s.courses q s.starting s.peers s.tallies s sound (record {
+  kept = sound_kept s sound;
   steady = subst (IsSteady (answers_given s.courses) (in_progress s.works)) (sym more.same) (roomy_steady (answers_given s.courses) (in_progress s.works) q.history.room s.parts more.room sound.steady);
-  up = subst (λ (ms : List Manager). (m : Member) → member_number m ≤ length ms → (manager_in m ms).up ≡ true) (sym (ap (λ (x : Owned). x.managers) more.same)) sound.up;
-  logs = kept;
-  placed = λ name. subst (λ (o : Registry). IsPlaced name o) (sym (ap (λ (x : Owned). x.objects) more.same)) (sound.placed name);
-  hands = λ m t. hand_roomy m t (work_of m t s.works) s.courses s.parts q more (sound.hands m t);
-}
+  objects = ap (λ (x : Owned). x.objects) more.same;
+  spares = λ k w. ap (λ (x : Owned). stand k w x) more.same;
+  ups = λ k. inl (ap (λ (x : Owned). (manager_in k x.managers).up) more.same);
+  ordered = structures_ordered s.parts q (ap (λ (x : Owned). x.structures) more.same) sound.ordered;
+  next = λ k w. refl;
+  starts = subst (λ (x : Repository). starts_left s.courses + length x.lives ≤ x.starts) (sym (ap (λ (x : Owned). x.repo) more.same)) sound.starts;
+}) sound.eight (start_after s q more s.starting sound.starting) kept systems

@@ -1,2 +1,4 @@
 pub mod Founding
 pub mod Sound
+pub mod Systems
+pub mod Tallying

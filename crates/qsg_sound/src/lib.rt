@@ -6,6 +6,6 @@
 mod laws;
 
 pub use laws::{
-    a_new_group_is_sound, a_sound_group_may_step, a_step_keeps_a_group_sound,
+    a_new_group_is_sound, a_sound_group_may_move, a_step_keeps_a_group_sound,
     a_step_that_wants_memory_keeps_a_group_sound,
 };

@@ -1,7 +1,7 @@
 //! What a directive asks for.
 
 ghost use Rattle.std.specs.Prelude.{◌≡◌};
-ghost use Rattle.qsg_step.specs.Asking.{asked, IsOwn};
+ghost use Rattle.qsg_step.specs.Asking.{asked, if_operator, IsOwn};
 
 use qsg_num::{Actor, Member, TaskNo};
 use qsg_objects::Directive;
@@ -13,8 +13,22 @@ pub enum Asked {
     Work(Member, TaskNo),
     /// That actor shall have given so many answers.
     Until(Actor, u32),
+    /// The member crashes; the number picks what is left of its unsynced writes. Only the operator asks for it.
+    Crash(Member, u64),
+    /// The member comes up again. Only the operator asks for it.
+    Start(Member),
     /// This part of the group isn't built yet.
     Later,
+}
+
+/// What only the operator may ask for.
+fn if_operator(actor: Actor, asked: Asked) -> Asked
+    ensures { result ≡ if_operator actor asked }
+{
+    match actor {
+        Actor::Task(..) => Asked::Later,
+        Actor::Operator => asked,
+    }
 }
 
 /// What a directive of an actor asks for.
@@ -30,14 +44,14 @@ pub fn asks_for(actor: Actor, directive: &Directive) -> Asked
             }
         }
         Directive::Wait(who, answers) => Asked::Until(*who, *answers),
+        Directive::Crash(member, pick) => if_operator(actor, Asked::Crash(*member, *pick)),
+        Directive::Start(member) => if_operator(actor, Asked::Start(*member)),
         Directive::Backup(_)
         | Directive::Recover(..)
         | Directive::ResetSmds(..)
         | Directive::DisplayCfstatus(_)
         | Directive::DisplayQueue(_)
         | Directive::DisplaySmds(_)
-        | Directive::Crash(..)
-        | Directive::Start(_)
         | Directive::Stop(_)
         | Directive::Lose(_) => Asked::Later,
     }

@@ -1,6 +1,6 @@
 //! What is counted of all incarnations that failed.
 
-ghost use Rattle.std.specs.Prelude.{◌≡◌, ◌<◌, [], IfOk, length, position};
+ghost use Rattle.std.specs.Prelude.{◌≡◌, ◌<◌, ◌≤◌, [], IfOk, length, position};
 ghost use Rattle.qsg_tallies.specs.Tallies.{is_tally_of, with_one};
 
 use crate::tally::Tally;
@@ -61,6 +61,13 @@ impl Tallies {
             limit,
             items: Vec::with_capacity(alloc, limit as usize)?,
         })
+    }
+
+    /// There are no more than there may be.
+    pub fn kept(&self)
+        ensures { length self.now.rows ≤ self.now.limit }
+    {
+        let _items = &self.items;
     }
 
     /// The tallies.

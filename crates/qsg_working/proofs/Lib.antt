@@ -1,0 +1,11 @@
+pub mod InHand
+pub mod Waits
+pub mod Directing
+pub mod Others
+pub mod Settling
+pub mod Failing
+pub mod Unmade
+pub mod Worked
+pub mod SystemSteps
+pub mod StartSteps
+pub mod Steps
