@@ -1,5 +1,5 @@
 -- the steps that a run has made
-use Rattle.std.proofs.Common.{◌≡◌, ℕ, ◌+◌, ◌%◌, ◌<◌, ◌≤◌, ◌⊎◌, inl, inr, List, [], ◌∷◌, ◌++◌, length, refl, sym, subst, arith}
+use Rattle.std.proofs.Common.{◌≡◌, ℕ, ◌<◌, ◌≤◌, inl, inr, List, [], ◌∷◌, ◌++◌, length, refl, sym, subst, arith}
 use Rattle.qsg_num.specs.declared.ids.Actor.{Actor}
 use Rattle.qsg_schedule.specs.Course.{Course, listed, seeded, due, pick, rest, pick_of, rest_of, drawn, actor_number}
 use Rattle.qsg_step.specs.declared.step.Step.TheVariants.{Moved}

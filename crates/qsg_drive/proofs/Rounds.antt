@@ -1,21 +1,14 @@
 -- one turn of a run
-use Rattle.std.proofs.Common.{◌≡◌, ◌≢◌, ℕ, ◌+◌, ◌-◌, ◌*◌, ◌%◌, ◌<◌, ◌≤◌, ◌⊎◌, inl, inr, Bool, true, false, ◌==◌, if◌then◌else◌, cond, List, [], ◌∷◌, ◌++◌, length, take, drop, slice_index_or, zero, suc, refl, sym, ap, ap₂, subst, ◌∙◌, arith, rules}
+use Rattle.std.proofs.Common.{◌≡◌, ℕ, ◌+◌, ◌%◌, ◌<◌, ◌≤◌, ◌⊎◌, inl, inr, List, [], ◌∷◌, ◌++◌, length, take, drop, zero, suc, refl, sym, subst, arith}
 use Rattle.std.proofs.lemmas.List.{take-append-drop}
-use Rattle.std.proofs.lemmas.Bool.Decides.{nat_tests}
 use Rattle.std.proofs.Math.Nat.{mod-eq_of_lt, mod_self}
 use Rattle.std.proofs.lemmas.Nat.{mod_below}
 use Rattle.qsg_num.specs.declared.ids.Actor.{Actor}
-use Rattle.qsg_num.specs.declared.ids.Actor.TheVariants.{Operator}
-use Rattle.qsg_schedule.specs.declared.chooser.Pick.{Pick}
-use Rattle.qsg_schedule.specs.declared.chooser.Pick.TheVariants.{Exactly, Round, From}
 use Rattle.qsg_schedule.specs.Course.{Course, listed, seeded, due, pick, rest, pick_of, rest_of, actor_number, draw, drawn}
-use Rattle.qsg_step.specs.declared.step.Step.{Step}
-use Rattle.qsg_step.specs.declared.step.Step.TheVariants.{Moved}
 use Rattle.qsg_step.specs.States.{State}
-use Rattle.qsg_step.specs.Steps.{IsStep}
-use Rattle.qsg_drive.specs.Quiet.{IsBehind, IsQuiet, Leads}
-use Rattle.qsg_drive.specs.Runs.{Made, Follows, IsPicked, IsStill, AreStill, IsThrough, IsRun, IsNewCourse, place_of, round_from}
-use Rattle.qsg_drive.specs.Turns.{IsTurn, IsMade, IsRoundStill, AreAllStill}
+use Rattle.qsg_drive.specs.Quiet.{IsBehind, IsQuiet}
+use Rattle.qsg_drive.specs.Runs.{IsStill, AreStill, IsNewCourse, place_of, round_from}
+use Rattle.qsg_drive.specs.Turns.{IsTurn}
 use Rattle.qsg_drive.proofs.Trying.{both_still}
 
 -- ---- still actors by their places

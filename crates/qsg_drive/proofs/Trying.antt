@@ -1,6 +1,5 @@
 -- trying the steps of actors in turn
-use Rattle.std.proofs.Common.{◌≡◌, ◌≢◌, ℕ, ◌+◌, ◌<◌, Bool, true, false, List, [], ◌∷◌, ◌++◌, length, take, drop, get_or, suc, refl, sym, ap, ap₂, subst, ◌∙◌, arith, append_assoc}
-use Rattle.std.specs.List.{AllByRecursion}
+use Rattle.std.proofs.Common.{◌≡◌, ℕ, ◌+◌, ◌<◌, Bool, true, false, List, [], ◌∷◌, ◌++◌, length, take, drop, get_or, suc, sym, ap, ap₂, subst, ◌∙◌, arith, append_assoc}
 use Rattle.std.proofs.lemmas.List.{take_more, take-append-drop}
 use Rattle.std.proofs.Math.Seq.{drop-cons}
 use Rattle.qsg_num.specs.declared.ids.Actor.{Actor}
@@ -9,7 +8,7 @@ use Rattle.qsg_step.specs.declared.step.Step.TheVariants.{Moved, Waits, Done}
 use Rattle.qsg_step.specs.States.{State}
 use Rattle.qsg_step.specs.Steps.{IsStep}
 use Rattle.qsg_drive.specs.Paces.{IsPaced}
-use Rattle.qsg_drive.specs.Runs.{IsStill, AreStill, IsFirstOf, place_of, round_from}
+use Rattle.qsg_drive.specs.Runs.{IsStill, AreStill, place_of, round_from}
 use Rattle.qsg_drive.specs.Tries.{moves, AreTried, IsFirstStep, IsTriedPace}
 use Rattle.qsg_drive.proofs.Stays.{no_move, stays, is_still, has_moved}
 

@@ -1,6 +1,5 @@
 -- how many steps that move may still come
 use Rattle.std.specs.Prelude.{ℕ, ◌≡◌, ◌<◌}
-use Rattle.qsg_requests.specs.declared.replies.Cause.{Cause}
 use Rattle.qsg_step.specs.declared.step.Step.{Step}
 use Rattle.qsg_step.specs.declared.step.Step.TheVariants.{Moved, Waits, Done}
 

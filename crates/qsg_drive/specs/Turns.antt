@@ -1,5 +1,5 @@
 -- what the step of a pick makes of a group, and of the rounds in a row that didn't move
-use Rattle.std.specs.Prelude.{ℕ, ◌+◌, ◌*◌, ◌-◌, ◌≡◌, ◌≢◌, ◌<◌, ◌≤◌, ◌⊎◌, List, length}
+use Rattle.std.specs.Prelude.{ℕ, ◌+◌, ◌≡◌, ◌<◌, ◌≤◌, ◌⊎◌, List, length}
 use Rattle.qsg_num.specs.declared.ids.Actor.{Actor}
 use Rattle.qsg_schedule.specs.declared.chooser.Pick.{Pick}
 use Rattle.qsg_schedule.specs.declared.chooser.Pick.TheVariants.{Exactly, Round, From}

@@ -14,6 +14,7 @@ use Rattle.qsg_num.specs.declared.seats.StructNo.{StructNo}
 use Rattle.qsg_num.specs.declared.ids.Actor.{Actor}
 use Rattle.qsg_num.specs.declared.ids.Actor.TheVariants.{Task, Operator}
 use Rattle.qsg_objects.specs.declared.directives.Directive.{Directive}
+use Rattle.qsg_objects.specs.declared.directives.Directive.TheVariants as directive
 use Rattle.qsg_objects.specs.declared.plans.MemberDef.{MemberDef}
 use Rattle.qsg_objects.specs.declared.plans.Size.{Size}
 use Rattle.qsg_objects.specs.declared.definitions.Definition.{Definition}
@@ -37,13 +38,14 @@ use Rattle.qsg_statement.specs.Taking.{taken}
 use Rattle.qsg_statement.specs.Words.{key_at, text_behind, member_of, structure_of}
 use Rattle.qsg_statement.proofs.Bodies.{neither}
 use Rattle.qsg_script.specs.Script.{Takes, TakesAll}
-use Rattle.qsg_sysplex.specs.Plans.{IsLogSized, AreRight, directives_of}
+use Rattle.qsg_sound.specs.Sound.{IsDirectiveWithin}
+use Rattle.qsg_sysplex.specs.Plans.{IsLogSized, AreRight, AreWithin, directives_of}
 use Rattle.qsg_plans.specs.Plans.{HasElements, IsActorOf, IsWorkOf}
 use Rattle.qsg_plans.proofs.Keywords.{log-right, elements-right}
 use Rattle.qsg_plans.proofs.Numbers.{count-most, count-least}
 use Rattle.qsg_plans.proofs.Objects.{AreDefined, defined-keeps}
 use Rattle.qsg_plans.proofs.Sections.{inserted-all, extended-all, inserted-count, extended-count}
-use Rattle.qsg_plans.proofs.Words.{task-within, body-sized}
+use Rattle.qsg_plans.proofs.Words.{task-within, crash-within, start-within, body-sized}
 
 abbrev pub IsFacilitySized : StructNo × Size → Type 0
 IsFacilitySized f = HasElements f.1
@@ -56,6 +58,7 @@ pub record AreInBounds (n : ℕ) (members : List MemberDef) (objects : Registry)
   pub elements : AllByRecursion IsFacilitySized facilities
   pub actors : AllByRecursion (IsWorkOf (length members)) sections
   pub right : AllByRecursion AreRight sections
+  pub within : AllByRecursion (AreWithin (length members)) sections
   pub directives : directives_of sections ≤ n
 
 -- what contents of n statements keep
@@ -73,6 +76,7 @@ more n members objects facilities sections kept =
       elements = kept.elements;
       actors = kept.actors;
       right = kept.right;
+      within = kept.within;
       directives = let h = kept.directives in omega (arith, h);
     }
 
@@ -80,7 +84,7 @@ unchanged : (n : ℕ) (c : Contents) → IsInBounds n c → IsInBounds (n + 1) c
 unchanged n c kept = more n c.members c.objects c.facilities c.sections kept
 
 none-kept : IsInBounds 0 nothing_read
-none-kept = record { few = omega arith; logs = tt; defined = record { numbered = tt; placed = tt }; elements = tt; actors = tt; right = tt; directives = omega arith }
+none-kept = record { few = omega arith; logs = tt; defined = record { numbered = tt; placed = tt }; elements = tt; actors = tt; right = tt; within = tt; directives = omega arith }
 
 -- MEMBER.
 
@@ -98,6 +102,26 @@ fewer-than n e = by (nat_le 8 n) refl e
 more-actors : (n m : ℕ) (a : Actor) → n ≤ m → IsActorOf n a → IsActorOf m a
 more-actors n m (Task x t) le is = (omega (arith, le, is.0), is.1)
 more-actors n m Operator le is = tt
+
+directive-more : (n m : ℕ) (d : Directive) → n ≤ m → IsDirectiveWithin n d → IsDirectiveWithin m d
+directive-more n m (directive.Put queue body priority persistent msg_id correl_id) le is = tt
+directive-more n m (directive.Get queue msg_id correl_id) le is = tt
+directive-more n m directive.Commit le is = tt
+directive-more n m directive.Backout le is = tt
+directive-more n m (directive.Wait other answers) le is = tt
+directive-more n m (directive.Backup structure) le is = tt
+directive-more n m (directive.Recover structure kind) le is = tt
+directive-more n m (directive.ResetSmds member structure wanted) le is = tt
+directive-more n m (directive.DisplayCfstatus structure) le is = tt
+directive-more n m (directive.DisplayQueue queue) le is = tt
+directive-more n m (directive.DisplaySmds structure) le is = tt
+directive-more n m (directive.Crash member pick) le is = omega (arith, le, is)
+directive-more n m (directive.Start member) le is = omega (arith, le, is)
+directive-more n m (directive.Stop member) le is = tt
+directive-more n m (directive.Lose structure) le is = tt
+
+more-within : (n m : ℕ) (ds : List Directive) → n ≤ m → AllByRecursion (IsDirectiveWithin n) ds → AllByRecursion (IsDirectiveWithin m) ds
+more-within n m ds le each = all-imp (IsDirectiveWithin n) (IsDirectiveWithin m) (λ d is. directive-more n m d le is) ds each
 
 log-sized : (c : Contents) (words : List Word) → row_fault c row.Member words ≡ None → IsLogSized (member_def (key_at 1 words) (drop 2 words))
 log-sized c words e =
@@ -117,6 +141,7 @@ member-keeps n c words e kept =
       elements = kept.elements;
       actors = all-imp (IsWorkOf (length c.members)) (IsWorkOf (length (c.members ++ m ∷ []))) (λ s is. more-actors (length c.members) (length (c.members ++ m ∷ [])) s.0 (omega (arith, one)) is) c.sections kept.actors;
       right = kept.right;
+      within = all-imp (AreWithin (length c.members)) (AreWithin (length (c.members ++ m ∷ []))) (λ s is. more-within (length c.members) (length (c.members ++ m ∷ [])) s.1 (omega (arith, one)) is) c.sections kept.within;
       directives = let h = kept.directives in omega (arith, h);
     }
 
@@ -136,6 +161,7 @@ facility-keeps n c s size sized kept =
       elements = all-append IsFacilitySized c.facilities (s, size) kept.elements sized;
       actors = kept.actors;
       right = kept.right;
+      within = kept.within;
       directives = let h = kept.directives in omega (arith, h);
     }
 
@@ -150,15 +176,16 @@ section-keeps n c a is kept =
       elements = kept.elements;
       actors = inserted-all (IsWorkOf (length c.members)) a c.sections is kept.actors;
       right = inserted-all AreRight a c.sections tt kept.right;
+      within = inserted-all (AreWithin (length c.members)) a c.sections tt kept.within;
       directives = let h = kept.directives in let same = inserted-count a c.sections in omega (arith, h, same);
     }
 
 -- A directive.
 
-directive-keeps : (n : ℕ) (c : Contents) (s : Stage) (d : Directive) → IsRight d → IsInBounds n c → IsInBounds (n + 1) (with_directive_in s d c)
-directive-keeps n c stage.Start d is kept = unchanged n c kept
-directive-keeps n c stage.Definitions d is kept = unchanged n c kept
-directive-keeps n c (stage.Section a) d is kept =
+directive-keeps : (n : ℕ) (c : Contents) (s : Stage) (d : Directive) → IsRight d → IsDirectiveWithin (length c.members) d → IsInBounds n c → IsInBounds (n + 1) (with_directive_in s d c)
+directive-keeps n c stage.Start d is within kept = unchanged n c kept
+directive-keeps n c stage.Definitions d is within kept = unchanged n c kept
+directive-keeps n c (stage.Section a) d is within kept =
     record {
       few = kept.few;
       logs = kept.logs;
@@ -166,10 +193,11 @@ directive-keeps n c (stage.Section a) d is kept =
       elements = kept.elements;
       actors = extended-all (IsWorkOf (length c.members)) a d c.sections (λ s h. h) kept.actors;
       right = extended-all AreRight a d c.sections (λ s h. all-append IsRight s.1 d h is) kept.right;
+      within = extended-all (AreWithin (length c.members)) a d c.sections (λ s h. all-append (IsDirectiveWithin (length c.members)) s.1 d h within) kept.within;
       directives = let h = kept.directives in let one = extended-count a d c.sections in omega (arith, h, one);
     }
-directive-keeps n c stage.Schedule d is kept = unchanged n c kept
-directive-keeps n c stage.Ended d is kept = unchanged n c kept
+directive-keeps n c stage.Schedule d is within kept = unchanged n c kept
+directive-keeps n c stage.Ended d is within kept = unchanged n c kept
 
 command-right : (c : Contents) (a : Admin) → IsRight (command_directive c a)
 command-right c (admin.Backup structure) = tt
@@ -178,6 +206,14 @@ command-right c (admin.ResetSmds member structure wanted) = tt
 command-right c (admin.DisplayCfstatus structure) = tt
 command-right c (admin.DisplayQueue queue) = tt
 command-right c (admin.DisplaySmds structure) = tt
+
+command-within : (c : Contents) (a : Admin) → IsDirectiveWithin (length c.members) (command_directive c a)
+command-within c (admin.Backup structure) = tt
+command-within c (admin.Recover structure kind) = tt
+command-within c (admin.ResetSmds member structure wanted) = tt
+command-within c (admin.DisplayCfstatus structure) = tt
+command-within c (admin.DisplayQueue queue) = tt
+command-within c (admin.DisplaySmds structure) = tt
 
 put-right : (c : Contents) (words : List Word) → IsRight (directive_by c row.Put words)
 put-right c words = body-sized (text_behind keyword.Body (drop 2 words)) (text_behind keyword.Hex (drop 2 words)) (text_behind keyword.Size (drop 2 words))
@@ -193,6 +229,7 @@ definition-keeps n c d kept =
       elements = kept.elements;
       actors = kept.actors;
       right = kept.right;
+      within = kept.within;
       directives = let h = kept.directives in omega (arith, h);
     }
 
@@ -205,16 +242,16 @@ row-keeps n c row.Facility words right kept =
     facility-keeps n c (structure_of (key_at 1 words) c) (facility_size c (key_at 1 words) (drop 2 words)) (facility-sized c words right) kept
 row-keeps n c row.Task words right kept = section-keeps n c (Task (member_of (key_at 1 words) c) (task_of (key_at 2 words))) (task-within c words right) kept
 row-keeps n c row.Operator words right kept = section-keeps n c Operator tt kept
-row-keeps n c row.Put words right kept = directive-keeps n c c.stage (directive_by c row.Put words) (put-right c words) kept
-row-keeps n c row.Get words right kept = directive-keeps n c c.stage (directive_by c row.Get words) tt kept
-row-keeps n c row.Commit words right kept = directive-keeps n c c.stage (directive_by c row.Commit words) tt kept
-row-keeps n c row.Backout words right kept = directive-keeps n c c.stage (directive_by c row.Backout words) tt kept
-row-keeps n c row.WaitTask words right kept = directive-keeps n c c.stage (directive_by c row.WaitTask words) tt kept
-row-keeps n c row.WaitOperator words right kept = directive-keeps n c c.stage (directive_by c row.WaitOperator words) tt kept
-row-keeps n c row.Crash words right kept = directive-keeps n c c.stage (directive_by c row.Crash words) tt kept
-row-keeps n c row.Start words right kept = directive-keeps n c c.stage (directive_by c row.Start words) tt kept
-row-keeps n c row.Stop words right kept = directive-keeps n c c.stage (directive_by c row.Stop words) tt kept
-row-keeps n c row.Lose words right kept = directive-keeps n c c.stage (directive_by c row.Lose words) tt kept
+row-keeps n c row.Put words right kept = directive-keeps n c c.stage (directive_by c row.Put words) (put-right c words) tt kept
+row-keeps n c row.Get words right kept = directive-keeps n c c.stage (directive_by c row.Get words) tt tt kept
+row-keeps n c row.Commit words right kept = directive-keeps n c c.stage (directive_by c row.Commit words) tt tt kept
+row-keeps n c row.Backout words right kept = directive-keeps n c c.stage (directive_by c row.Backout words) tt tt kept
+row-keeps n c row.WaitTask words right kept = directive-keeps n c c.stage (directive_by c row.WaitTask words) tt tt kept
+row-keeps n c row.WaitOperator words right kept = directive-keeps n c c.stage (directive_by c row.WaitOperator words) tt tt kept
+row-keeps n c row.Crash words right kept = directive-keeps n c c.stage (directive_by c row.Crash words) tt (crash-within c words right) kept
+row-keeps n c row.Start words right kept = directive-keeps n c c.stage (directive_by c row.Start words) tt (start-within c words right) kept
+row-keeps n c row.Stop words right kept = directive-keeps n c c.stage (directive_by c row.Stop words) tt tt kept
+row-keeps n c row.Lose words right kept = directive-keeps n c c.stage (directive_by c row.Lose words) tt tt kept
 row-keeps n c row.Schedule words right kept = unchanged n c kept
 row-keeps n c row.TurnTask words right kept = unchanged n c kept
 row-keeps n c row.TurnOperator words right kept = unchanged n c kept
@@ -222,7 +259,7 @@ row-keeps n c row.End words right kept = unchanged n c kept
 
 kind-keeps : (n : ℕ) (c : Contents) (kind : Kind) (words : List Word) → kind_fault c kind words ≡ None → IsInBounds n c → IsInBounds (n + 1) (taken (statement_of c kind words) c)
 kind-keeps n c Define words right kept = definition-keeps n c (definition_of words) kept
-kind-keeps n c Command words right kept = directive-keeps n c c.stage (command_directive c (admin_of words)) (command-right c (admin_of words)) kept
+kind-keeps n c Command words right kept = directive-keeps n c c.stage (command_directive c (admin_of words)) (command-right c (admin_of words)) (command-within c (admin_of words)) kept
 kind-keeps n c (Listed r) words right kept = row-keeps n c r words right kept
 
 item-keeps : (n : ℕ) (c next : Contents) (item : Item) → Takes c item next → IsInBounds n c → IsInBounds (n + 1) next

@@ -1,8 +1,9 @@
 -- what definitions make: structures are numbered, and each queue is on one that there is
-use Rattle.std.proofs.Common.{◌≡◌, ◌+◌, [], ◌∷◌, ◌++◌, length, Option, Some, None, refl, arith}
+use Rattle.std.proofs.Common.{◌≡◌, ◌≤◌, ℕ, ◌+◌, List, [], ◌∷◌, ◌++◌, length, Option, Some, None, refl, arith}
 use Rattle.std.specs.List.{AllByRecursion}
 use Rattle.qsg_num.specs.declared.seats.StructNo.{StructNo}
 use Rattle.qsg_num.specs.Seats.{structure_at}
+use Rattle.qsg_num.proofs.Ranges.{structure-bounds}
 use Rattle.qsg_objects.specs.declared.definitions.CfstructDef.{CfstructDef}
 use Rattle.qsg_objects.specs.declared.definitions.QlocalDef.{QlocalDef}
 use Rattle.qsg_objects.specs.declared.definitions.Definition.{Definition}
@@ -40,3 +41,11 @@ defined-keeps (a_queue d) o kept = queue-keeps (number_named d.cfstruct o) d o r
 
 pub queues-placed : (o : Registry) → AreDefined o → AllByRecursion (IsOnOneOf (length o.structures)) o.queues
 queues-placed o kept = counted-queues o.structures o.queues kept.numbered kept.placed
+
+-- there are at most four structures
+numbered-few : (n : ℕ) (ss : List Cfstruct) → n ≤ 5 → AreNumbered n ss → n + length ss ≤ 5
+numbered-few n [] few each = omega (arith, few)
+numbered-few n (s ∷ ss) few each = let most = structure-bounds s.number in let rest = numbered-few (n + 1) ss (omega (arith, most, each.0)) each.1 in omega (arith, rest)
+
+pub structures-few : (o : Registry) → AreDefined o → length o.structures ≤ 4
+structures-few o kept = let few = numbered-few 1 o.structures (omega arith) kept.numbered in omega (arith, few)

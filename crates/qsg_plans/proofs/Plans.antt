@@ -14,11 +14,11 @@ use Rattle.qsg_draft.specs.Plans.{works_of, plan_of}
 use Rattle.qsg_draft.specs.Sizes.{default_size, size_or, size_of}
 use Rattle.qsg_script.specs.Script.{IsPlan}
 use Rattle.qsg_script.proofs.Order.{works-in-order}
-use Rattle.qsg_sysplex.specs.Plans.{AreRight, directives_of, IsWorkable}
+use Rattle.qsg_sysplex.specs.Plans.{AreRight, AreWithin, directives_of, IsWorkable}
 use Rattle.qsg_plans.specs.Plans.{HasElements, IsWorkOf, AreInOrder, IsInRange}
 use Rattle.qsg_plans.proofs.Kept.{IsFacilitySized, IsInBounds, script-in-bounds}
 use Rattle.qsg_plans.proofs.Lines.{items-below}
-use Rattle.qsg_plans.proofs.Objects.{queues-placed}
+use Rattle.qsg_plans.proofs.Objects.{queues-placed, structures-few}
 use Rattle.qsg_plans.proofs.Order.{rising-in-order}
 use Rattle.qsg_plans.proofs.Sections.{works-all, works-count}
 
@@ -43,9 +43,11 @@ contents-workable n c kept low =
     record {
       few = kept.few;
       logs = kept.logs;
+      four = let few = structures-few c.objects kept.defined in let each = length-map (size_of c.facilities) c.objects.structures in omega (arith, few, each);
       sizes = length-map (size_of c.facilities) c.objects.structures;
       queues = queues-placed c.objects kept.defined;
       right = works-all AreRight c.sections tt kept.right;
+      within = works-all (AreWithin (length c.members)) c.sections tt kept.within;
       directives = below;
     }
 

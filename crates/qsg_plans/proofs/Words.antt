@@ -67,6 +67,31 @@ task-within c (w0 ∷ w1 ∷ w2 ∷ ws) e =
       task-at (number_or 0 (number_of w2.key 4)) (number-least 0 1 (number_of w2.key 4) number) (number-most 0 4 w2.key (omega arith)),
     )
 
+-- a member that crashes or starts is one of those there are
+pub crash-within : (c : Contents) (words : List Word) → row_fault c row.Crash words ≡ None → member_number (member_of (key_at 1 words) c) ≤ length c.members
+crash-within c [] e = absurd cc
+crash-within c (w0 ∷ []) e =
+    let missing = (neither (words_fault c row.Crash [] []) (missing_fault row.Crash []) e).1 in
+    let said : missing_fault row.Crash [] ≡ None = missing in
+    absurd cc
+crash-within c (w0 ∷ w1 ∷ ws) e =
+    let all = neither (words_fault c row.Crash [] (w1 ∷ ws)) (missing_fault row.Crash (w1 ∷ ws)) e in
+    let first = neither (word_fault c row.Crash [] w1) (words_fault c row.Crash (w1 ∷ []) ws) all.0 in
+    let some = is-defined 1 _ (is_some (member_named w1.key c)) (text-right c [] slot.Member w1 first.0) in
+    some-within (member_named w1.key c) (length c.members) some (named-within w1.key c)
+
+pub start-within : (c : Contents) (words : List Word) → row_fault c row.Start words ≡ None → member_number (member_of (key_at 1 words) c) ≤ length c.members
+start-within c [] e = absurd cc
+start-within c (w0 ∷ []) e =
+    let missing = (neither (words_fault c row.Start [] []) (missing_fault row.Start []) e).1 in
+    let said : missing_fault row.Start [] ≡ None = missing in
+    absurd cc
+start-within c (w0 ∷ w1 ∷ ws) e =
+    let all = neither (words_fault c row.Start [] (w1 ∷ ws)) (missing_fault row.Start (w1 ∷ ws)) e in
+    let first = neither (word_fault c row.Start [] w1) (words_fault c row.Start (w1 ∷ []) ws) all.0 in
+    let some = is-defined 1 _ (is_some (member_named w1.key c)) (text-right c [] slot.Member w1 first.0) in
+    some-within (member_named w1.key c) (length c.members) some (named-within w1.key c)
+
 -- a body by its size is at most the longest
 pub body-sized : (body hex size : Option (List ℕ)) → IsSized (body_by body hex size)
 body-sized (Some text) hex size = tt

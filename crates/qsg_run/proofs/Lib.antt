@@ -4,3 +4,4 @@ pub mod Exact
 pub mod Paces
 pub mod Pieces
 pub mod Pushing
+pub mod Reporting

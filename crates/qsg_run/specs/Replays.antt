@@ -10,11 +10,11 @@ use Rattle.qsg_schedule.specs.Course.{Course, listed, seeded}
 use Rattle.qsg_report.specs.declared.shown.Shown.{Shown}
 use Rattle.qsg_report.specs.Report.{report_text}
 use Rattle.qsg_step.specs.States.{State}
-use Rattle.qsg_agenda.specs.Courses.{answers_of}
 use Rattle.qsg_sysplex.specs.Actors.{actors_of}
-use Rattle.qsg_sysplex.specs.Ends.{is_finished}
 use Rattle.qsg_sysplex.specs.Kept.{IsKept}
 use Rattle.qsg_sysplex.specs.Starting.{IsMade}
+use Rattle.qsg_step.specs.Waiting.{told_to}
+use Rattle.qsg_working.specs.Ends.{is_finished}
 use Rattle.qsg_drive.specs.Runs.{Made, IsRun}
 use Rattle.qsg_shown.specs.Showing.{IsShown}
 use Rattle.qsg_run.specs.declared.status.Status.{Status}
@@ -26,19 +26,20 @@ abbrev pub course_for : Option ℕ → List (Actor × ℕ) → List Actor → Co
 course_for (Some n) schedule actors = seeded n actors
 course_for None schedule actors = listed schedule actors 0
 
--- a run ended Finished exactly where every directive is answered
+-- a run ended Finished exactly where every directive is answered and no system task has work
 abbrev pub IsEnd : State → Status → Type 0
 IsEnd s Finished = is_finished s ≡ true
 IsEnd s Stuck = is_finished s ≡ false
 IsEnd s other = ⊥
 
--- the text is the report of a state, which keeps all laws and is the one that the status says
+-- The text is the report of a state, which keeps all laws, that of the tallies that are shown among them, and is the one
+-- that the status says.
 pub record IsReported (actors : List Actor) (s : State) (status : Status) (text : List ℕ) : Type 0 where
   pub shown : Shown
   pub kept : IsKept s
   pub ended : IsEnd s status
   pub seen : IsShown (waits_of actors s) s shown
-  pub report : text ≡ report_text actors (λ who. answers_of who s.courses) s.parts.history.items shown
+  pub report : text ≡ report_text actors (λ who. told_to who s) s.parts.history.items shown
 
 -- what a rig tells it was given back: of each member, the bytes of its log
 pub record GivenBack : Type 0 where

@@ -5,7 +5,7 @@ use Rattle.qsg_num.specs.declared.ids.Actor.{Actor}
 use Rattle.qsg_requests.specs.declared.replies.Cause.{Cause}
 use Rattle.qsg_report.specs.declared.shown.ShownWait.{ShownWait}
 use Rattle.qsg_step.specs.States.{State}
-use Rattle.qsg_sysplex.specs.Ends.{wait_of}
+use Rattle.qsg_working.specs.Ends.{wait_of}
 
 abbrev pub wait_shown : State → Actor → Option ShownWait
 wait_shown s who = option_map (λ (cause : Cause). record { actor = who; cause = cause }) (wait_of who s)

@@ -5,6 +5,7 @@ ghost use Rattle.qsg_pace.specs.Pace.{left};
 use qsg_disk::Disk;
 use qsg_drive::Group;
 use qsg_num::Actor;
+use qsg_pace::each_step_that_moves_leaves_less;
 use qsg_step::Step;
 use qsg_sysplex::Sysplex;
 use std::alloc::{AllocError, Global};
@@ -22,6 +23,7 @@ impl<D: Disk + Drop> Group for Driven<D> {
 
     fn step(&mut self, alloc: Global, actor: Actor) -> Result<Step, AllocError> {
         self.sysplex.kept();
+        each_step_that_moves_leaves_less();
         self.sysplex.step(alloc, actor)
     }
 }

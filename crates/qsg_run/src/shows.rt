@@ -11,7 +11,7 @@ use qsg_disk::Disk;
 use qsg_num::{Actor, Member, Name, StructNo};
 use qsg_objects::{Cfstruct, MemberDef, Queue};
 use qsg_report::{Shown, ShownMember, ShownQueue, ShownStructure, ShownWait};
-use qsg_shown::{incarnation_of, pages_of, show_member, show_queue, show_structure};
+use qsg_shown::{incarnation_of, pages_of, show_failures, show_member, show_queue, show_structure};
 use qsg_sysplex::Sysplex;
 use std::alloc::{AllocError, Global};
 
@@ -231,7 +231,7 @@ pub fn shown_of<D: Disk + Drop>(
         structures,
         queues,
         datasets: Vec::new(alloc),
-        failed: Vec::new(alloc),
+        failed: show_failures(alloc, &sysplex.parts().repo, sysplex.tallies())?,
         waits,
     })
 }

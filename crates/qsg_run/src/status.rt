@@ -6,14 +6,14 @@ ghost use Rattle.qsg_run.specs.Statuses.{status_number};
 /// How a call ended.
 #[derive(Clone, Copy, Debug, PartialEq, Eq)]
 pub enum Status {
-    /// The script was read and run until every directive was answered, or only read, and what was asked for was written.
+    /// The script was read and run until every directive was answered and no system task had work, or only read, and what
+    /// was asked for was written.
     Finished,
     /// The words are none that the program knows; the usage was written.
     Usage,
     /// The bytes are no script; its first fault was written, with its line.
     Script,
-    /// The script was run until each actor that has a directive left waits; the report was written, with what they wait
-    /// for.
+    /// The script was run until each actor that has work left waits; the report was written, with what they wait for.
     Stuck,
     /// The source failed; `read fault` was written.
     ReadFault,

@@ -1,6 +1,7 @@
 -- what a report shows of a group
-use Rattle.std.specs.Prelude.{ℕ, ◌-◌, ◌≡◌, Bool, List, [], ◌∷◌, map, slice_get, Option, Some, None, option_map}
+use Rattle.std.specs.Prelude.{ℕ, ◌+◌, ◌-◌, ◌*◌, ◌^◌, ◌≡◌, not, List, [], ◌∷◌, map, slice_get, Option, option_map}
 use Rattle.std.specs.List.{filter_map}
+use Rattle.std.specs.List.Sorted.{IsPermutation, IsNonDecreasingBy}
 use Rattle.qsg_num.specs.declared.seats.Member.{Member}
 use Rattle.qsg_num.specs.declared.seats.Member.TheVariants as member
 use Rattle.qsg_num.specs.declared.seats.StructNo.{StructNo}
@@ -14,15 +15,19 @@ use Rattle.qsg_objects.specs.declared.plans.MemberDef.{MemberDef}
 use Rattle.qsg_objects.specs.declared.registry.Cfstruct.{Cfstruct}
 use Rattle.qsg_objects.specs.declared.registry.Queue.{Queue}
 use Rattle.qsg_objects.specs.Registry.{structure_numbered}
+use Rattle.qsg_repo.specs.Calls.{is_unresolved}
 use Rattle.qsg_repo.specs.Keeping.{keep}
+use Rattle.qsg_repo.specs.Tables.{Repository}
 use Rattle.qsg_manager.specs.Facilities.{structure_in}
 use Rattle.qsg_manager.specs.Storage.{manager_in}
 use Rattle.qsg_logs.specs.Kept.{log_in}
 use Rattle.qsg_report.specs.declared.shown.Shown.{Shown}
+use Rattle.qsg_report.specs.declared.shown.ShownFailure.{ShownFailure}
 use Rattle.qsg_report.specs.declared.shown.ShownMember.{ShownMember}
 use Rattle.qsg_report.specs.declared.shown.ShownQueue.{ShownQueue}
 use Rattle.qsg_report.specs.declared.shown.ShownStructure.{ShownStructure}
 use Rattle.qsg_report.specs.declared.shown.ShownWait.{ShownWait}
+use Rattle.qsg_tallies.specs.declared.tally.Tally.{Tally}
 use Rattle.qsg_step.specs.States.{State, is_member_up}
 
 -- what is seen of a structure that is shown
@@ -77,13 +82,31 @@ queue_shown s q = record { name = q.definition.name; depth = depth_of q.definiti
 abbrev pub queues_shown : State → List ShownQueue
 queues_shown s = map (queue_shown s) s.parts.objects.queues
 
--- What is shown is the state: the group, its members, structures and queues, and the actors that wait, of which each is
--- given with its cause. There are no data sets yet, and no incarnation failed.
+-- an incarnation that failed: whether it is resolved, and how many of its marks each member's system task took off
+abbrev pub failure_shown : Repository → Tally → ShownFailure
+failure_shown repo tally = record {
+  member = tally.member;
+  incarnation = tally.incarnation;
+  resolved = not (is_unresolved tally.member tally.incarnation repo);
+  counts = tally.counts;
+}
+
+-- incarnations go by their members, and then by their numbers, which are below 2^32
+abbrev pub failure_rank : ShownFailure → ℕ
+failure_rank f = member_number f.member * 2 ^ 32 + f.incarnation.number
+
+-- each tally is shown once, in that order
+pub record AreFailures (repo : Repository) (tallies : List Tally) (shown : List ShownFailure) : Type 0 where
+  pub all : IsPermutation (map (failure_shown repo) tallies) shown
+  pub order : IsNonDecreasingBy failure_rank shown
+
+-- What is shown is the state: the group, its members, structures and queues, the incarnations that failed, and the actors
+-- that wait, of which each is given with its cause. There are no data sets yet.
 pub record IsShown (waiting : List ShownWait) (s : State) (shown : Shown) : Type 0 where
   pub group : shown.group ≡ s.group
   pub members : shown.members.items ≡ members_shown s
   pub structures : map seen shown.structures.items ≡ structures_seen s
   pub queues : shown.queues.items ≡ queues_shown s
   pub datasets : shown.datasets.items ≡ []
-  pub failed : shown.failed.items ≡ []
+  pub failed : AreFailures s.parts.repo s.tallies.rows shown.failed.items
   pub waits : shown.waits.items ≡ waiting

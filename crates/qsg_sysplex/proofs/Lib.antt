@@ -1,12 +1,9 @@
-pub mod InHand
-pub mod Waits
-pub mod Settling
-pub mod Directing
 pub mod NewLogs
 pub mod NewRepo
 pub mod NewStructures
 pub mod NewCourses
 pub mod Making
-pub mod Worked
+pub mod Moving
+pub mod Stepping
 pub mod Flat
 pub mod GivenBack

@@ -9,10 +9,10 @@ use Rattle.qsg_objects.specs.Registry.{Registry, is_queue}
 use Rattle.qsg_agenda.specs.Courses.{Course, begun}
 use Rattle.qsg_fit.specs.Outcomes.{IsPlaced}
 use Rattle.qsg_step.specs.States.{IsCourseRight}
-use Rattle.qsg_sound.specs.Sound.{directives_in}
+use Rattle.qsg_sound.specs.Sound.{directives_in, is_start, starts_in as starts_in_course, starts_left, IsCourseWithin}
 use Rattle.qsg_sound.specs.Founding.{IsUnanswered}
-use Rattle.qsg_sysplex.specs.Plans.{AreRight, directives_of, IsOnOneOf}
-use Rattle.qsg_sysplex.specs.Starting.{is_start, starts_in, starts_of}
+use Rattle.qsg_sysplex.specs.Plans.{AreRight, AreWithin, directives_of, IsOnOneOf}
+use Rattle.qsg_sysplex.specs.Starting.{starts_in, starts_of}
 
 pub all_right : (works : List (Actor × List Directive)) → AllByRecursion AreRight works → AllByRecursion IsCourseRight (map begun works)
 all_right [] each = tt
@@ -21,6 +21,18 @@ all_right ((who, directives) ∷ works) each = (each.0, all_right works each.1)
 pub all_unanswered : (works : List (Actor × List Directive)) → AllByRecursion IsUnanswered (map begun works)
 all_unanswered [] = tt
 all_unanswered ((who, directives) ∷ works) = (refl, all_unanswered works)
+
+pub all_within : (n : ℕ) (works : List (Actor × List Directive)) → AllByRecursion (AreWithin n) works → AllByRecursion (IsCourseWithin n) (map begun works)
+all_within n [] each = tt
+all_within n ((who, directives) ∷ works) each = (each.0, all_within n works each.1)
+
+starts_from : (n : ℕ) (works : List (Actor × List Directive)) → fold (λ (a : ℕ) (c : Course). a + starts_in_course c) n (map begun works) ≡ fold (λ (a : ℕ) (w : Actor × List Directive). a + starts_in w) n works
+starts_from n [] = refl
+starts_from n ((who, directives) ∷ works) = starts_from (n + starts_in (who, directives)) works
+
+-- no START is answered
+pub all_starts : (works : List (Actor × List Directive)) → starts_left (map begun works) ≡ starts_of works
+all_starts works = starts_from 0 works
 
 as_many_from : (n : ℕ) (works : List (Actor × List Directive)) → fold (λ (a : ℕ) (c : Course). a + length c.directives) n (map begun works) ≡ fold (λ (a : ℕ) (w : Actor × List Directive). a + length w.1) n works
 as_many_from n [] = refl

@@ -1,6 +1,7 @@
 -- the repository of a new group: each member has its first incarnation, none has failed, and nothing is noted or held
-use Rattle.std.proofs.Common.{◌≡◌, ℕ, zero, suc, ◌-◌, ◌≤◌, Bool, true, false, ◌==◌, ◌&&◌, ◌||◌, List, [], ◌∷◌, ◌++◌, None, replicate, refl, ap, subst, ◌∙◌, cond, arith, take, drop}
+use Rattle.std.proofs.Common.{◌≡◌, ℕ, zero, suc, ◌-◌, ◌≤◌, Bool, true, false, ◌==◌, ◌&&◌, ◌||◌, List, [], ◌∷◌, ◌++◌, None, replicate, refl, ap, subst, ◌∙◌, cond, arith, take, drop, length, ◌+◌}
 use Rattle.std.specs.Prelude.{count_by}
+use Rattle.std.proofs.lemmas.List.{length-take-le}
 use Rattle.std.proofs.lemmas.List.Folds.{list_any-append}
 use Rattle.std.proofs.lemmas.List.Sums.{sum_by_push}
 use Rattle.std.specs.List.{AllByRecursion, list_any}
@@ -10,7 +11,7 @@ use Rattle.qsg_num.specs.declared.ids.Incarnation.{Incarnation}
 use Rattle.qsg_num.specs.Seats.{member_number}
 use Rattle.qsg_repo.specs.declared.lives.Life.{Life}
 use Rattle.qsg_repo.specs.declared.lives.Fate.TheVariants.{Up}
-use Rattle.qsg_repo.specs.Lives.{is_member, is_life, is_failed_life}
+use Rattle.qsg_repo.specs.Lives.{is_up, is_member, is_life, is_failed_life}
 use Rattle.qsg_repo.specs.Calls.{new_repository, is_unresolved, next_incarnation, started}
 use Rattle.qsg_repo.specs.Tables.{Repository, page_at, no_holds}
 use Rattle.qsg_manager.specs.declared.managers.Manager.{Manager}
@@ -35,6 +36,10 @@ any_more test x (y ∷ ys) none not_it = by (test y) (λ rest. any_more test x y
     by : (b : Bool) → (list_any test ys ≡ false → list_any test (ys ++ x ∷ []) ≡ false) → (b || list_any test ys) ≡ false → (b || list_any test (ys ++ x ∷ [])) ≡ false
     by true rest e = e
     by false rest e = rest e
+
+length-push : {X : Type 0} (xs : List X) (x : X) → length (xs ++ x ∷ []) ≡ length xs + 1
+length-push [] x = refl
+length-push (y ∷ ys) x = let h = length-push ys x in omega (arith, h)
 
 abbrev up_life : Member → Incarnation → Life
 up_life m i = record { member = m; incarnation = i; fate = Up }
@@ -122,3 +127,54 @@ listed_more members.Eight n a b c d = first_listed members.Eight (drop 8 all_mem
 
 pub new_listed : (m : Member) (n a b : ℕ) (c : List Bool) (d : ℕ) → member_number m ≤ n → IsListed m new_manager (all_started (take n all_members) (new_repository a b c d))
 new_listed m n a b c d within = subst (λ k. IsListed m new_manager (all_started (take k all_members) (new_repository a b c d))) (more_is m n within) (listed_more m (n - member_number m) a b c d)
+
+-- ---- one incarnation for each member
+
+more_lives : (members : List Member) (repo : Repository) → length (all_started members repo).lives ≡ length repo.lives + length members
+more_lives [] repo = omega arith
+more_lives (m ∷ members) repo = let rest = more_lives members (started m repo) in let one = length-push repo.lives (up_life m (next_incarnation m repo)) in omega (arith, rest, one)
+
+same_starts : (members : List Member) (repo : Repository) → (all_started members repo).starts ≡ repo.starts
+same_starts [] repo = refl
+same_starts (m ∷ members) repo = same_starts members (started m repo)
+
+taken : (n : ℕ) → n ≤ 8 → length (take n all_members) ≡ n
+taken n few = length-take-le n all_members (omega (arith, few))
+
+pub new_lives : (n a b : ℕ) (c : List Bool) (d : ℕ) → n ≤ 8 → length (all_started (take n all_members) (new_repository a b c d)).lives ≡ n
+new_lives n a b c d few = let all = more_lives (take n all_members) (new_repository a b c d) in let some = taken n few in omega (arith, all, some)
+
+pub new_starts : (n a b : ℕ) (c : List Bool) (d : ℕ) → (all_started (take n all_members) (new_repository a b c d)).starts ≡ d
+new_starts n a b c d = same_starts (take n all_members) (new_repository a b c d)
+
+-- what holds of the first incarnation of each member holds of each incarnation
+all-push : (P : Life → Type 0) (xs : List Life) (x : Life) → AllByRecursion P xs → P x → AllByRecursion P (xs ++ x ∷ [])
+all-push P [] x each new = (new, tt)
+all-push P (y ∷ ys) x each new = (each.0, all-push P ys x each.1 new)
+
+abbrev IsOfEach : (Life → Type 0) → Member → Type 0
+IsOfEach P m = (i : Incarnation) → P (up_life m i)
+
+all-lives : (P : Life → Type 0) (ms : List Member) (repo : Repository) → AllByRecursion (IsOfEach P) ms → AllByRecursion P repo.lives → AllByRecursion P (all_started ms repo).lives
+all-lives P [] repo each old = old
+all-lives P (m ∷ ms) repo each old = all-lives P ms (started m repo) each.1 (all-push P repo.lives (up_life m (next_incarnation m repo)) old (each.0 (next_incarnation m repo)))
+
+pub all_ups : (ms : List Member) (a b : ℕ) (c : List Bool) (d : ℕ) → AllByRecursion (λ (l : Life). is_up l.fate ≡ true) (all_started ms (new_repository a b c d)).lives
+all_ups ms a b c d = all-lives (λ (l : Life). is_up l.fate ≡ true) ms (new_repository a b c d) (each ms) tt
+  where
+    each : (ns : List Member) → AllByRecursion (IsOfEach (λ (l : Life). is_up l.fate ≡ true)) ns
+    each [] = tt
+    each (n ∷ ns) = (λ i. refl, each ns)
+
+-- the first so many members have numbers up to that
+abbrev AreNumberedFrom : ℕ → List Member → Type 0
+AreNumberedFrom k [] = Unit {0}
+AreNumberedFrom k (m ∷ ms) = (member_number m ≡ k + 1) × AreNumberedFrom (k + 1) ms
+
+below : (most k n : ℕ) (ms : List Member) → k + n ≤ most → AreNumberedFrom k ms → AllByRecursion (IsOfEach (λ (l : Life). member_number l.member ≤ most)) (take n ms)
+below most k zero ms le is = tt
+below most k (suc n) [] le is = tt
+below most k (suc n) (m ∷ ms) le is = (λ i. omega (arith, le, is.0), below most (k + 1) n ms (omega (arith, le)) is.1)
+
+pub all_members_below : (most n a b : ℕ) (c : List Bool) (d : ℕ) → n ≤ most → AllByRecursion (λ (l : Life). member_number l.member ≤ most) (all_started (take n all_members) (new_repository a b c d)).lives
+all_members_below most n a b c d le = all-lives (λ (l : Life). member_number l.member ≤ most) (take n all_members) (new_repository a b c d) (below most 0 n all_members (omega (arith, le)) (refl, (refl, (refl, (refl, (refl, (refl, (refl, (refl, tt))))))))) tt

@@ -8,6 +8,7 @@ use Rattle.qsg_objects.specs.declared.plans.MemberDef.{MemberDef}
 use Rattle.qsg_objects.specs.declared.plans.Plan.{Plan}
 use Rattle.qsg_objects.specs.declared.registry.Queue.{Queue}
 use Rattle.qsg_directives.specs.Asking.{IsRight}
+use Rattle.qsg_sound.specs.Sound.{IsDirectiveWithin}
 
 -- a log has some pages, and at most 8,192
 abbrev pub IsLogSized : MemberDef → Type 0
@@ -21,6 +22,10 @@ IsOnOneOf structures queue = structure_number queue.structure ≤ structures
 abbrev pub AreRight : Actor × List Directive → Type 0
 AreRight work = AllByRecursion IsRight work.1
 
+-- members that are to end or to start are among so many
+abbrev pub AreWithin : ℕ → Actor × List Directive → Type 0
+AreWithin members work = AllByRecursion (IsDirectiveWithin members) work.1
+
 -- how many directives there are in all
 abbrev pub directives_of : List (Actor × List Directive) → ℕ
 directives_of works = sum_by (λ (work : Actor × List Directive). length work.1) works
@@ -29,7 +34,9 @@ directives_of works = sum_by (λ (work : Actor × List Directive). length work.1
 pub record IsWorkable (plan : Plan) : Type 0 where
   pub few : length plan.members ≤ 8
   pub logs : AllByRecursion IsLogSized plan.members
+  pub four : length plan.sizes ≤ 4
   pub sizes : length plan.sizes ≡ length plan.objects.structures
   pub queues : AllByRecursion (IsOnOneOf (length plan.objects.structures)) plan.objects.queues
   pub right : AllByRecursion AreRight plan.works
+  pub within : AllByRecursion (AreWithin (length plan.members)) plan.works
   pub directives : directives_of plan.works < 2 ^ 30

@@ -3,7 +3,8 @@
 ghost use Rattle.std.specs.Prelude.{◌≡◌, ◌<◌, ◌≤◌, ◌+◌, ◌++◌, ◌^◌, [], length, replicate, take, count_by, IfOk, OnOk};
 ghost use Rattle.std.specs.List.{cons_option};
 ghost use Rattle.qsg_steady.specs.Founding.{new_manager};
-ghost use Rattle.qsg_sysplex.specs.Starting.{structure_sized, new_structures, is_start, starts_in, starts_of, recover_of, recovering, all_members, all_started, new_repo};
+ghost use Rattle.qsg_sound.specs.Sound.{is_start};
+ghost use Rattle.qsg_sysplex.specs.Starting.{structure_sized, new_structures, starts_in, starts_of, incarnations_of, recover_of, recovering, all_members, all_started, new_repo};
 
 use qsg_lists::Structure;
 use qsg_manager::{Manager, Managers, Structures, Tasks};
@@ -23,6 +24,7 @@ pub const ALL_MEMBERS: [Member; 8] = [
     Member::Seven,
     Member::Eight,
 ];
+
 /// Adds the structure of a number, if there is a size for it.
 fn push_structure(
     alloc: Global,
@@ -111,6 +113,14 @@ fn starts_of(works: &[(Actor, Directives)]) -> usize
     starts
 }
 
+/// How many incarnations the members may have: each its first one, and one for each START.
+pub fn incarnations_of(members: usize, works: &[(Actor, Directives)]) -> u32
+    requires { incarnations_of members works.now < 2 ^ 32 }
+    ensures { result ≡ incarnations_of members works.now }
+{
+    (members + starts_of(works)) as u32
+}
+
 /// Whether the messages of a structure may be persistent.
 fn recover_of(objects: &Objects, number: StructNo) -> bool
     ensures { result ≡ recover_of number objects.now }
@@ -145,22 +155,21 @@ fn start_all(repo: &mut Repo, members: usize)
     }
 }
 
-/// The repository of so many members, each in its first incarnation, with room for those to come.
+/// The repository of so many members, each in its first incarnation, with room for so many incarnations.
 pub fn new_repo(
     alloc: Global,
     members: usize,
     objects: &Objects,
-    works: &[(Actor, Directives)],
+    incarnations: u32,
 ) -> Result<Repo, AllocError>
     requires members { members ≤ 8 }
-    requires starts { members + starts_of works.now < 2 ^ 32 }
-    ensures new { IfOk result (λ repo. repo ≡ new_repo members objects.now works.now) }
+    requires each { members ≤ incarnations }
+    ensures new { IfOk result (λ repo. repo ≡ new_repo members objects.now incarnations) }
     ensures structures { length objects.now.structures ≤ 4 }
 {
     let structures = objects.structure_count() as u8;
-    let starts = (members + starts_of(works)) as u32;
     let recover = recovering(objects);
-    let mut repo = Repo::new(alloc, members as u8, structures, recover, starts)?;
+    let mut repo = Repo::new(alloc, members as u8, structures, recover, incarnations)?;
     start_all(&mut repo, members);
     Ok(repo)
 }

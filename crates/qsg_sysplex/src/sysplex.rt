@@ -1,21 +1,27 @@
 //! The group, which keeps its laws.
 
 ghost use Rattle.std.specs.Prelude.{◌≡◌, ◌<◌, ◌≤◌, true, length, IfOk, OnErr, IsOk, IsErrOf, IsSome, IsSomeAnd};
-ghost use Rattle.qsg_agenda.specs.Courses.{answers_of};
 
 use crate::devices::{MakeFault, give_back, new_logs};
-use crate::starting::{new_managers, new_repo, new_structures};
-use crate::stepping::logs_are_kept;
-use crate::working::Working;
+use crate::laws::{
+    a_kept_group_may_move, a_new_group_is_kept, a_step_keeps_a_group,
+    a_step_that_wants_memory_keeps_a_group,
+};
+use crate::starting::{incarnations_of, new_managers, new_repo, new_structures};
 use qsg_agenda::Agenda;
 use qsg_disk::{Disk, Rig};
 use qsg_lists::{Entry, State};
 use qsg_model::History;
-use qsg_num::{Actor, Member, StructNo};
+use qsg_num::{Actor, Member, StructNo, TaskNo};
 use qsg_objects::{MemberDefs, Plan, Sizes};
 use qsg_parts::Parts;
+use qsg_peers::Peers;
 use qsg_requests::{Answer, Cause, Transcripts};
 use qsg_step::Step;
+use qsg_tallies::{Tallies, Tally};
+use qsg_working::{
+    Dues, Working, logs_are_kept, next_has_ids, peers_are_kept, start_is_kept, structures_are_kept,
+};
 use qsg_works::Works;
 use std::alloc::{AllocError, Global};
 use std::marker::Model;
@@ -29,7 +35,7 @@ pub struct Sysplex<D: Disk> {
 impl<D: Disk> Model for Sysplex<D> {
     ghost use Rattle.qsg_step.specs.States.{State};
     ghost use Rattle.qsg_sysplex.specs.Kept.{IsKept};
-    ghost use Rattle.qsg_sysplex.specs.Views.{state_of};
+    ghost use Rattle.qsg_working.specs.Views.{state_of};
 
     ghost Value = { State };
 
@@ -51,8 +57,8 @@ impl<D: Disk + Drop> Sysplex<D> {
     ghost use Rattle.qsg_step.specs.States.{is_member_up};
     ghost use Rattle.qsg_step.specs.Steps.{IsStep, IsUnmade};
     ghost use Rattle.qsg_sysplex.specs.declared.devices.MakeFault.TheVariants as fault;
-    ghost use Rattle.qsg_sysplex.specs.Ends.{wait_of, is_finished, is_stuck};
-    ghost use Rattle.qsg_sysplex.specs.Hands.{needs_no_memory};
+    ghost use Rattle.qsg_working.specs.Ends.{wait_of, is_finished, is_stuck};
+    ghost use Rattle.qsg_working.specs.Needs.{needs_no_memory};
     ghost use Rattle.qsg_sysplex.specs.Kept.{IsKept};
     ghost use Rattle.qsg_sysplex.specs.Plans.{IsWorkable};
     ghost use Rattle.qsg_sysplex.specs.Starting.{IsMade};
@@ -82,11 +88,16 @@ impl<D: Disk + Drop> Sysplex<D> {
         } = plan;
         let structures = new_structures(alloc, sizes.as_slice())?;
         let managers = new_managers(alloc, members.len())?;
-        let repo = new_repo(alloc, members.len(), &objects, works.as_slice())?;
+        let incarnations = incarnations_of(members.len(), works.as_slice());
+        let repo = new_repo(alloc, members.len(), &objects, incarnations)?;
+        let tallies = Tallies::new(alloc, incarnations)?;
         let agenda = Agenda::new(alloc, works)?;
         let hands = Works::new(alloc)?;
+        let peers = Peers::new(alloc)?;
         let logs = new_logs(alloc, rig, members.as_slice())?;
+        a_new_group_is_kept();
         logs_are_kept(&logs);
+        structures_are_kept(&structures);
         Ok(Sysplex {
             working: Working {
                 parts: Parts {
@@ -99,7 +110,10 @@ impl<D: Disk + Drop> Sysplex<D> {
                 },
                 agenda,
                 works: hands,
-                failed: [false; 8],
+                due: Dues::new(),
+                peers,
+                starting: None,
+                tallies,
                 group,
                 members,
                 sizes,
@@ -115,30 +129,40 @@ impl<D: Disk + Drop> Sysplex<D> {
     }
 
     /// Makes the next step of an actor. Only want of memory is an error; then nothing changed but that the history may
-    /// have more room. A step that goes on with a COMMIT or BACKOUT, and one of the operator, never wants memory.
+    /// have more room. A step that goes on with a COMMIT or BACKOUT never wants memory, and neither does the operator's
+    /// CRASH, or a step that settles a mark for an incarnation that failed.
     pub fn step(&mut self, alloc: Global, actor: Actor) -> Result<Step, AllocError>
         ensures next { IfOk result (λ step. IsStep actor self.old step self.new) }
         ensures unmade { OnErr result (IsUnmade self.old self.new) }
         ensures settles { needs_no_memory actor self.old ≡ true → IsOk result }
     {
-        self.working.step(alloc, actor)
+        a_kept_group_may_move();
+        next_has_ids(&self.working.agenda, actor);
+        let made = self.working.step(alloc, actor);
+        logs_are_kept(&self.working.parts.logs);
+        structures_are_kept(&self.working.parts.structures);
+        peers_are_kept(&self.working.peers);
+        start_is_kept(&self.working.starting);
+        a_step_keeps_a_group();
+        a_step_that_wants_memory_keeps_a_group();
+        made
     }
 
-    /// Whether every directive is answered. Takes no memory.
+    /// Whether every directive is answered, and the system task of each member that is up has no work. Takes no memory.
     pub fn finished(&self) -> bool
         ensures { result ≡ is_finished self.now }
     {
         self.working.is_finished()
     }
 
-    /// Whether directives are left, and each actor that has one left waits. Takes no memory.
+    /// Whether the group isn't finished, and each actor that has work left waits. Takes no memory.
     pub fn stuck(&self) -> bool
         ensures { result ≡ is_stuck self.now }
     {
         self.working.is_stuck()
     }
 
-    /// Why an actor with a directive left waits; None where it has none left, or doesn't wait.
+    /// Why an actor with work left waits; None where it has none left, or doesn't wait.
     pub fn cause(&self, actor: Actor) -> Option<Cause>
         ensures { result ≡ wait_of actor self.now }
     {
@@ -159,7 +183,7 @@ impl<D: Disk + Drop> Sysplex<D> {
         &self.working.parts
     }
 
-    /// Whether a member makes steps: it is up, and no write or sync of its log failed.
+    /// Whether a member is up.
     pub fn is_up(&self, member: Member) -> bool
         ensures { result ≡ is_member_up member self.now }
     {
@@ -203,6 +227,13 @@ impl<D: Disk + Drop> Sysplex<D> {
         &self.working.parts.history
     }
 
+    /// What is counted of the incarnations that failed, in the order in which they did.
+    pub fn tallies(&self) -> &[Tally]
+        ensures { result.now ≡ self.now.tallies.rows }
+    {
+        self.working.tallies.as_slice()
+    }
+
     /// Its name.
     pub fn group(&self) -> &str
         ensures { result.now ≡ self.now.group }
@@ -230,17 +261,23 @@ impl<D: Disk + Drop> Sysplex<D> {
         ensures later { R.faults rig.old ≤ R.faults rig.new }
         ensures told { R.tells rig.new ≡ R.tells rig.old }
     {
-        give_back(rig, self.working.parts.logs);
+        let Sysplex { working } = self;
+        let Working { parts, .. } = working;
+        give_back(rig, parts.logs);
     }
 }
 
-/// The answers of an actor so far, one for each of its first directives.
+/// The answers of an actor so far: those of a member's system task to its own work, and those of each other actor to its
+/// first directives.
 impl<D: Disk + Drop> Transcripts for Sysplex<D> {
-    ghost use Rattle.qsg_agenda.specs.Courses.{answers_of};
+    ghost use Rattle.qsg_step.specs.Waiting.{told_to};
 
-    ghost told = { λ s who. answers_of who s.courses };
+    ghost told = { λ s who. told_to who s };
 
     fn transcript(&self, actor: Actor) -> &[Answer] {
-        self.working.agenda.transcript(actor)
+        match actor {
+            Actor::Task(member, TaskNo::System) => self.working.peers.answers(member),
+            Actor::Task(..) | Actor::Operator => self.working.agenda.transcript(actor),
+        }
     }
 }

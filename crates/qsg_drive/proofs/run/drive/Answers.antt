@@ -1,12 +1,7 @@
-use Rattle.std.proofs.Common.{◌≡◌, sym, subst, rules}
-use Rattle.std.proofs.Common.{length, ◌+◌, ◌<◌, arith}
-use Rattle.qsg_schedule.specs.declared.chooser.Pick.{Pick}
-use Rattle.qsg_schedule.specs.Course.{Course, pick, rest}
-use Rattle.qsg_drive.specs.Quiet.{IsQuiet, Leads, turns_left}
-use Rattle.qsg_drive.specs.Turns.{IsTurn, IsTurnPace}
+use Rattle.std.proofs.Common.{length}
 use Rattle.qsg_drive.proofs.Leading.{leads_first, leads_after, is_run}
 use Rattle.qsg_drive.proofs.Rounds.{quiet_first, quiet_after}
-use Rattle.qsg_drive.proofs.Pacing.{way, pace_after}
+use Rattle.qsg_drive.proofs.Pacing.{pace_after}
 use Rattle.qsg_drive.proofs.run.drive.Goals as goal
 
 pub loop-quiet-init : goal.loop-quiet-init

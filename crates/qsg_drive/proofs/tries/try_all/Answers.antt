@@ -1,4 +1,4 @@
-use Rattle.std.proofs.Common.{◌≡◌, ◌∙◌, Bool, true, false, sym, arith}
+use Rattle.std.proofs.Common.{◌≡◌, ◌∙◌, true, false, sym, arith}
 use Rattle.qsg_drive.specs.Tries.{moves}
 use Rattle.qsg_drive.proofs.Trying.{first_step, more_still, same_state, quiet_pace}
 use Rattle.qsg_drive.proofs.tries.try_all.Goals as goal

@@ -1,6 +1,6 @@
 use Rattle.std.proofs.Common.{◌≡◌, take}
 use Rattle.std.specs.Prelude.{count_by}
-use Rattle.qsg_sysplex.specs.Starting.{is_start}
+use Rattle.qsg_sound.specs.Sound.{is_start}
 use Rattle.qsg_sysplex.proofs.starting.starts_among.Given as goal
 
 abbrev pub invariant-loop-directive : goal.invariant-loop-directive
