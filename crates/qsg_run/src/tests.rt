@@ -1,6 +1,6 @@
 //! Whole reports, scripts at fault, and calls whose outside fails.
 
-ghost use Rattle.std.specs.Prelude.{None};
+ghost use Rattle.std.specs.Prelude.{◌≡◌, None, IfOk, length};
 
 use super::*;
 use qsg_disk::{Kind, Rig};
@@ -480,7 +480,9 @@ fn a_log_cannot_be_read(rt: HostRuntime) -> Result<(), Fail> {
 }
 
 /// A page that begins with these bytes, and goes on with zeros.
-fn page(alloc: Global, front: &[u8]) -> Result<Bytes, Fail> {
+fn page(alloc: Global, front: &[u8]) -> Result<Bytes, Fail>
+    ensures { IfOk result (λ page. length page ≡ 4096) }
+{
     let mut bytes = Vec::from_slice(alloc, front)?;
     bytes.resize(4_096, 0)?;
     Ok(Bytes::from_vec(bytes))
