@@ -2,7 +2,7 @@
 
 ghost use Rattle.std.specs.Prelude.{◌≡◌, ◌≢◌, ℕ, ◌+◌, ◌*◌, ◌^◌, ◌<◌, ◌≤◌, ◌==◌, not, Bool, true, List, [], ◌∷◌, length, slice_index, OnOk, IfOk, IfSome, IfNone, IsErrOf, Option};
 ghost use Rattle.qsg_num.specs.Faults.{HasCause, Rose};
-ghost use Rattle.qsg_disk.specs.Byte.{values};
+ghost use Rattle.qsg_disk.specs.Byte.{values, EachPair, IsCut};
 ghost use Rattle.qsg_dataset.specs.Headers.{spelling};
 ghost use Rattle.qsg_dataset.specs.Contents.{HasBlocks, IsSized, IsSame, extent_of, offset_of, block_bytes, header_of, gate_value, IsSaved};
 ghost use Rattle.qsg_dataset.specs.Steps.{Writes, Syncs, SaveStep, ShutStep};
@@ -115,6 +115,20 @@ impl<D: Disk> DataSet<D> {
         let _size = self.device.size();
     }
 
+    /// How many blocks there are.
+    pub fn blocks(&self) -> u32
+        ensures { result ≡ self.now.blocks }
+    {
+        self.blocks
+    }
+
+    /// Bytes of a block.
+    pub fn block_size(&self) -> u32
+        ensures { result ≡ self.now.block_size }
+    {
+        self.block_size
+    }
+
     /// Where a block begins.
     fn offset(&self, block: Block) -> u32
         requires { block.number < self.now.blocks }
@@ -213,8 +227,10 @@ impl<D: Disk> DataSet<D> {
     }
 
     /// Reads the header. The map is None exactly where the gate is 0, the map was saved for another epoch, or the
-    /// header isn't the spelling of a map of this data set. No byte of the data set changes.
+    /// header isn't the spelling of a map of this data set. No byte of the data set changes. Memory is found before the
+    /// device is called.
     pub fn load_map(&mut self, alloc: Global, epoch: u32) -> Result<Loaded, LoadError>
+        ensures memory { IsErrOf result error.NoMemory → self.new ≡ self.old }
         ensures same { IsSame self.old self.new }
         ensures later { self.old.faults ≤ self.new.faults }
         ensures cause { IsErrOf result error.Failed → Rose self.old.faults self.new.faults }
@@ -224,11 +240,12 @@ impl<D: Disk> DataSet<D> {
         ensures map { IfOk result (λ l. IfSome l.map (λ used. self.old.tells ≡ true → IsSaved epoch self.old.blocks used self.old.bytes)) }
         ensures none { IfOk result (λ l. IfNone l.map (self.old.tells ≡ true → (used : List Bool) → IsSaved epoch self.old.blocks used self.old.bytes → ⊥)) }
     {
+        let free = Map::new(alloc, self.blocks)?;
         let mut header = [0; DATA_SET_HEADER as usize];
         self.read_header(&mut header)?;
         let gate_open = header[0] != SHUT;
         let map = if gate_open {
-            saved_map(alloc, &header[1..], epoch, self.blocks)?
+            saved_map(free, &header[1..], epoch)
         } else {
             None
         };
@@ -245,5 +262,15 @@ impl<D: Disk> DataSet<D> {
     {
         let _size = self.device.size();
         self.device.read(0, header)
+    }
+
+    /// The power of its device goes and comes back. `pick` chooses among the values of bytes that have no safe one.
+    pub fn cut(&mut self, pick: u64)
+        ensures same { IsSame self.old self.new }
+        ensures faults { self.old.faults ≤ self.new.faults }
+        ensures cut { self.old.tells ≡ true → EachPair IsCut self.old.bytes self.new.bytes }
+    {
+        let _size = self.device.size();
+        self.device.power_cut(pick, 0);
     }
 }
