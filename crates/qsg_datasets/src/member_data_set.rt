@@ -1,0 +1,277 @@
+//! The data set of one member for one structure.
+
+ghost use Rattle.std.specs.Prelude.{◌≡◌, ◌≤◌, ◌<◌, ℕ, List, [], length, map, replicate, true, None, Some, IfOk, OnOk, OnErr, IfErr, IfSome, IsErrOf, IsSome};
+ghost use Rattle.std.specs.List.{AllByRecursion};
+ghost use Rattle.qsg_num.specs.Faults.{HasCause, Rose};
+ghost use Rattle.qsg_num.specs.declared.ids.Block.{Block};
+ghost use Rattle.qsg_disk.specs.Byte.{values};
+ghost use Rattle.qsg_space.specs.Spaces.{free_count};
+ghost use Rattle.qsg_space.specs.Refusals.{IsWhyNone};
+ghost use Rattle.qsg_dataset.specs.Contents.{Contents, HasBlocks, block_bytes, header_of, offset_of};
+ghost use Rattle.qsg_dataset.specs.Steps.{Writes, Syncs, SaveStep, ShutStep};
+ghost use Rattle.qsg_dataset.specs.declared.data_set.LoadError.TheVariants as error;
+ghost use Rattle.qsg_datasets.specs.Kept.{KeptSet, IsKept, no_hand, no_hands, stands, used_in, hand_of, with_hand, taken, given_back, freed, claimed, emptied};
+ghost use Rattle.qsg_datasets.specs.Calls.{IsStorageSame, IsCut, IsLoaded};
+
+use qsg_dataset::{DataSet, LoadError};
+use qsg_disk::{Disk, Failed};
+use qsg_num::{Block, Blocks, TaskNo};
+use qsg_space::{Map, TakeError};
+use std::alloc::{AllocError, Global};
+use std::marker::Model;
+use std::mem;
+
+/// Tasks of a member, its system task among them.
+const ALL_TASKS: usize = 5;
+
+/// The map of a data set's used blocks, for one epoch of its structure.
+#[derive(Debug, Drop)]
+pub struct KeptMap {
+    pub epoch: u32,
+    pub used: Map,
+}
+
+/// Blocks that a task has taken for a body that no entry lists yet, in an epoch of the structure.
+#[derive(Debug, Drop)]
+pub struct Hand {
+    pub epoch: u32,
+    pub blocks: Blocks,
+}
+
+/// What was found in a header.
+#[derive(Clone, Copy, Debug, PartialEq, Eq)]
+pub struct Found {
+    /// Whether it had a map that was saved for the epoch.
+    pub has_map: bool,
+    /// Whether its gate isn't 0.
+    pub gate_open: bool,
+}
+
+/// A member's data set for a structure, with what the member keeps of it in its own storage.
+///
+/// The calls on the device are one device call each. They fail only where the device's count of faults rose.
+#[derive(Drop)]
+pub struct MemberDataSet<D: Disk> {
+    data: DataSet<D>,
+    map: Option<KeptMap>,
+    hands: Vec<Hand>,
+}
+
+impl<D: Disk> Model for MemberDataSet<D> {
+    ghost use Rattle.std.specs.Prelude.{◌≡◌, length, IfSome};
+    ghost use Rattle.qsg_datasets.specs.Kept.{KeptSet};
+
+    ghost Value = { KeptSet };
+
+    ghost view = { λ s. record { contents = s.data; map = s.map; hands = s.hands.items } };
+
+    ghost invariant = { λ s. (length s.hands.items ≡ 5) × IfSome s.map (λ m. length m.used ≡ s.data.blocks) };
+}
+
+/// A task that has taken no blocks. Takes no memory.
+fn no_hand(alloc: Global) -> Hand
+    ensures { result ≡ no_hand }
+{
+    Hand {
+        epoch: 0,
+        blocks: Blocks::from_vec(Vec::new(alloc)),
+    }
+}
+
+impl<D: Disk> MemberDataSet<D> {
+    /// A data set of which its member keeps no map, and of which no task has taken blocks.
+    pub fn new(alloc: Global, data: DataSet<D>) -> Result<Self, AllocError>
+        ensures { IfOk result (λ s. s ≡ record { contents = data; map = None; hands = no_hands }) }
+    {
+        let mut hands = Vec::with_capacity(alloc, ALL_TASKS)?;
+        hands.push(no_hand(alloc))?;
+        hands.push(no_hand(alloc))?;
+        hands.push(no_hand(alloc))?;
+        hands.push(no_hand(alloc))?;
+        hands.push(no_hand(alloc))?;
+        Ok(MemberDataSet {
+            data,
+            map: None,
+            hands,
+        })
+    }
+
+    /// Its data set. Takes no memory.
+    pub fn into_data_set(self) -> DataSet<D>
+        ensures { result ≡ self.contents }
+    {
+        self.data
+    }
+
+    /// What every data set of a member keeps.
+    pub fn kept(&self)
+        ensures { IsKept self.now }
+    {
+        self.data.kept();
+    }
+
+    /// The blocks of a data set, and the bytes of each.
+    pub fn blocks(&self) -> u32
+        ensures { result ≡ self.now.contents.blocks }
+    {
+        self.data.blocks()
+    }
+
+    /// Bytes of a block.
+    pub fn block_size(&self) -> u32
+        ensures { result ≡ self.now.contents.block_size }
+    {
+        self.data.block_size()
+    }
+
+    /// Whether the map stands for an epoch of the structure.
+    pub fn stands(&self, epoch: u32) -> bool
+        ensures { result ≡ stands epoch self.now }
+    {
+        match &self.map {
+            Some(map) => map.epoch == epoch,
+            None => false,
+        }
+    }
+
+    /// How many blocks are used by the map that stands for an epoch; 0 where none does.
+    pub fn used(&self, epoch: u32) -> u32
+        ensures { result ≡ self.now.contents.blocks - free_count (used_in epoch self.now) }
+    {
+        todo
+    }
+
+    /// The blocks that a task has taken.
+    pub fn hand(&self, task: TaskNo) -> &Hand
+        ensures { result.now ≡ hand_of task self.now }
+    {
+        &self.hands[usize::from(task.get())]
+    }
+
+    /// A task takes the n lowest free blocks, for a body that it is about to write: from the map that stands for this
+    /// epoch of the structure, or else from a new one. NoRoom comes exactly where fewer are free; an error changes
+    /// nothing.
+    pub fn take(&mut self, alloc: Global, task: TaskNo, epoch: u32, n: u32) -> Result<(), TakeError>
+        ensures taken { OnOk result (self.new ≡ taken task epoch n self.old) }
+        ensures room { OnOk result (n ≤ free_count (used_in epoch self.old)) }
+        ensures refused { IfErr result (λ why. IsWhyNone why n (free_count (used_in epoch self.old))) }
+        ensures unchanged { OnErr result (self.new ≡ self.old) }
+    {
+        todo
+    }
+
+    /// The blocks that a task has taken are free again, in the map of their epoch. Takes no memory.
+    pub fn give_back(&mut self, alloc: Global, task: TaskNo)
+        ensures { self.new ≡ given_back task self.old }
+    {
+        todo
+    }
+
+    /// Puts blocks in a task's hand in place of those that it had, which it gives: to an entry that is to list them, or
+    /// back from one that wasn't written. Takes no memory.
+    pub fn exchange(&mut self, task: TaskNo, hand: Hand) -> Hand
+        ensures given { result ≡ hand_of task self.old }
+        ensures { self.new ≡ with_hand task hand self.old }
+    {
+        mem::replace(&mut self.hands[usize::from(task.get())], hand)
+    }
+
+    /// Makes blocks free in the map, where it stands for that epoch. Takes no memory.
+    pub fn free(&mut self, epoch: u32, blocks: &Blocks)
+        ensures { self.new ≡ freed epoch blocks.now self.old }
+    {
+        todo
+    }
+
+    /// Makes blocks used in the map, if there is one. Takes no memory.
+    pub fn claim(&mut self, blocks: &Blocks)
+        requires within { AllByRecursion (λ (b : Block). b.number < self.old.contents.blocks) blocks.now }
+        ensures { self.new ≡ claimed blocks.now self.old }
+    {
+        todo
+    }
+
+    /// Drops the map and what tasks have taken. Takes no memory.
+    pub fn clear(&mut self, alloc: Global)
+        ensures { self.new ≡ emptied self.old }
+    {
+        todo
+    }
+
+    /// Writes the first bytes of a block, at most all of it.
+    pub fn write_block(&mut self, block: Block, bytes: &[u8]) -> Result<(), Failed>
+        requires block { block.number < self.old.contents.blocks }
+        requires length { length bytes.now ≤ self.old.contents.block_size }
+        ensures same { IsStorageSame self.old self.new }
+        ensures cause { HasCause self.old.contents.faults self.new.contents.faults result }
+        ensures reads { OnOk result (self.old.contents.tells ≡ true → values (block_bytes self.new.contents block.number (length bytes.now)) ≡ bytes.now) }
+        ensures others { self.old.contents.tells ≡ true → (k n : ℕ) → (k ≡ block.number → ⊥) → n ≤ self.old.contents.block_size → block_bytes self.new.contents k n ≡ block_bytes self.old.contents k n }
+        ensures header { self.old.contents.tells ≡ true → header_of self.new.contents.bytes ≡ header_of self.old.contents.bytes }
+        ensures write { self.old.contents.tells ≡ true → Writes (offset_of self.old.contents block.number) bytes.now result self.old.contents.bytes self.new.contents.bytes }
+    {
+        self.data.write_block(block, bytes)
+    }
+
+    /// Reads the first bytes of a block, at most all of it. No byte changes.
+    pub fn read_block(&mut self, block: Block, into: &mut [u8]) -> Result<(), Failed>
+        requires block { block.number < self.old.contents.blocks }
+        requires length { length into.old ≤ self.old.contents.block_size }
+        ensures same { IsStorageSame self.old self.new }
+        ensures cause { HasCause self.old.contents.faults self.new.contents.faults result }
+        ensures bytes { self.old.contents.tells ≡ true → self.new.contents.bytes ≡ self.old.contents.bytes }
+        ensures length { length into.new ≡ length into.old }
+        ensures read { OnOk result (self.old.contents.tells ≡ true → into.new ≡ values (block_bytes self.old.contents block.number (length into.old))) }
+    {
+        self.data.read_block(block, into)
+    }
+
+    /// Makes every byte safe. No value changes.
+    pub fn sync(&mut self) -> Result<(), Failed>
+        ensures same { IsStorageSame self.old self.new }
+        ensures cause { HasCause self.old.contents.faults self.new.contents.faults result }
+        ensures sync { self.old.contents.tells ≡ true → Syncs result self.old.contents.bytes self.new.contents.bytes }
+    {
+        self.data.sync()
+    }
+
+    /// Does one of the four calls that save the map: 1 writes it behind the gate, 2 syncs, 3 opens the gate, 4 syncs.
+    pub fn save_step(&mut self, at: u8) -> Result<(), Failed>
+        requires step { (1 ≤ at) × (at ≤ 4) }
+        requires map { IsSome self.old.map }
+        ensures same { IsStorageSame self.old self.new }
+        ensures cause { HasCause self.old.contents.faults self.new.contents.faults result }
+        ensures step { IfSome self.old.map (λ m. self.old.contents.tells ≡ true → SaveStep at m.epoch m.used result self.old.contents.bytes self.new.contents.bytes) }
+    {
+        todo
+    }
+
+    /// Does one of the two calls that shut the gate: 1 writes it, 2 syncs.
+    pub fn shut_step(&mut self, at: u8) -> Result<(), Failed>
+        requires { (1 ≤ at) × (at ≤ 2) }
+        ensures same { IsStorageSame self.old self.new }
+        ensures cause { HasCause self.old.contents.faults self.new.contents.faults result }
+        ensures step { self.old.contents.tells ≡ true → ShutStep at result self.old.contents.bytes self.new.contents.bytes }
+    {
+        self.data.shut_step(at)
+    }
+
+    /// Reads the header, and makes a map that stands for an epoch: the one that was saved for it, or else one of free
+    /// blocks. An error leaves the map as it was; no byte changes.
+    pub fn load(&mut self, alloc: Global, epoch: u32) -> Result<Found, LoadError>
+        ensures loaded { IfOk result (λ found. IsLoaded epoch found self.old self.new) }
+        ensures later { self.old.contents.faults ≤ self.new.contents.faults }
+        ensures cause { IsErrOf result error.Failed → Rose self.old.contents.faults self.new.contents.faults }
+        ensures same { OnErr result (IsStorageSame self.old self.new) }
+        ensures bytes { OnErr result (self.old.contents.tells ≡ true → self.new.contents.bytes ≡ self.old.contents.bytes) }
+    {
+        todo
+    }
+
+    /// The power of the device goes and comes back, and the member's storage is gone. `pick` chooses among the values of
+    /// bytes that have no safe one. Takes no memory.
+    pub fn cut(&mut self, alloc: Global, pick: u64)
+        ensures { IsCut self.old self.new }
+    {
+        todo
+    }
+}
