@@ -5,7 +5,7 @@ use Rattle.qsg_group.proofs.Purging.{unput_elsewhere, ungot_elsewhere}
 use Rattle.qsg_group.specs.Changes.{in_recovery, reopened_shelf}
 use Rattle.qsg_lists.specs.Recovering.{is_recovering}
 use Rattle.qsg_model.proofs.Keyed.{message_at-key}
-use Rattle.std.proofs.Common.{◌≡◌, ℕ, ◌+◌, Bool, true, false, cond, List, [], ◌∷◌, ◌++◌, Option, Some, None, refl, sym, ap, subst, ◌∙◌, inl, inr}
+use Rattle.std.proofs.Common.{◌≡◌, ℕ, ◌+◌, Bool, true, false, cond, List, [], ◌∷◌, ◌++◌, Option, Some, None, refl, sym, ap, subst, ◌∙◌, arith, inl, inr}
 use Rattle.std.specs.Prelude.{◌⊎◌}
 use Rattle.std.specs.Option.{option_and_then}
 use Rattle.std.proofs.lemmas.Bool.{cases_Bool, or_cases}
@@ -13,6 +13,7 @@ use Rattle.std.proofs.lemmas.Option.{same_Some, none-some}
 use Rattle.qsg_num.specs.declared.seats.StructNo.{StructNo}
 use Rattle.qsg_num.specs.declared.seats.TaskNo.{TaskNo}
 use Rattle.qsg_num.specs.declared.ids.UnitName.{UnitName}
+use Rattle.qsg_num.specs.declared.ids.EntryId.{EntryId}
 use Rattle.qsg_num.specs.Seats.{structure_number}
 use Rattle.qsg_num.specs.Ids.{same_unit}
 use Rattle.qsg_msg.specs.declared.message.Message.{Message}
@@ -20,9 +21,9 @@ use Rattle.qsg_model.specs.declared.history.Op.{Op}
 use Rattle.qsg_model.specs.declared.history.Op.TheVariants.{Put, Got}
 use Rattle.qsg_model.specs.History.{key, same_key, puts}
 use Rattle.qsg_model.specs.Past.{message_at, is_put, is_got, or_else}
-use Rattle.qsg_model.proofs.Differing.{same_key-true}
+use Rattle.qsg_model.proofs.Differing.{same_key-true, same_key-self}
 use Rattle.qsg_lists.specs.declared.parts.Mark.{Mark}
-use Rattle.qsg_lists.specs.declared.parts.Mark.TheVariants.{Visible, PutBy, GotBy}
+use Rattle.qsg_lists.specs.declared.parts.Mark.TheVariants.{Visible, PutBy, GotBy, Cleanup}
 use Rattle.qsg_lists.specs.Structures.{is_active}
 use Rattle.qsg_group.specs.declared.tasks.Claim.{Claim}
 use Rattle.qsg_group.specs.declared.tasks.Task.{Task}
@@ -30,15 +31,16 @@ use Rattle.qsg_group.specs.Tables.{at_structure}
 use Rattle.qsg_group.specs.Group.{Held, Shelf, Group, idle}
 use Rattle.qsg_group.specs.Observers.{entry_at, top_of, revise, is_committed, is_undecided}
 use Rattle.qsg_group.specs.Laws.{Has, IsDone, AreDone, Laws}
-use Rattle.qsg_group.specs.Changes.{open_task, hardening_task, settling, is_commit, settling_task, with_entry, with_entries, marked, settled_entry, settle, lost_shelf, claim_of, MayPut, MayGet, MayBegin, MayHarden, MayBackOut, MaySettle, MayPeerSettle, Change}
-use Rattle.qsg_group.specs.Changes.Change.{Draws, Puts, Gets, Begins, Hardens, BacksOut, Settles, Finishes, Publishes, GivesUp, Crashes, Stops, Starts, PeerSettles, Resolves, Loses}
+use Rattle.qsg_group.specs.Changes.{open_task, hardening_task, settling, is_commit, settling_task, with_entry, with_entries, marked, settled_entry, settle, forget, lost_shelf, claim_of, MayPut, MayGet, MayUnget, MayForget, MayBegin, MayHarden, MayBackOut, MaySettle, MayPeerSettle, Change}
+use Rattle.qsg_group.specs.Changes.Change.{Draws, Puts, Gets, Ungets, Forgets, Begins, Hardens, BacksOut, Settles, Finishes, Publishes, GivesUp, Crashes, Stops, Starts, PeerSettles, Resolves, Loses}
 use Rattle.qsg_group.proofs.Tables.{every_structure}
-use Rattle.qsg_group.proofs.Entries.{num, above_none, push_same, push_kept, revise_same, revise_stays}
-use Rattle.qsg_group.proofs.Keys.{puts_of_got, got_put, got_got, message_of_put}
-use Rattle.qsg_group.proofs.Holding.{with_task, cases_has, every_after}
+use Rattle.qsg_group.proofs.Entries.{num, above_none, push_same, push_kept, revise_same, revise_other, revise_stays}
+use Rattle.qsg_group.proofs.Keys.{puts_of_got, got_put, got_got, gots_front, got_before, message_of_put}
+use Rattle.qsg_group.proofs.Holding.{with_task, got_task, cases_has, every_after}
 use Rattle.qsg_group.proofs.Pages.{has_unit, same_name}
+use Rattle.qsg_group.proofs.Logs.{ready_of}
 use Rattle.qsg_group.proofs.Failing.{every_crashed, unfailed}
-use Rattle.qsg_group.proofs.Shelves.{settler, settler_keeps, marker_keeps}
+use Rattle.qsg_group.proofs.Shelves.{settler, settler_keeps, marker_keeps, forgetter_keeps}
 use Rattle.qsg_group.proofs.Following.{name_apart, undecided_not}
 use Rattle.qsg_group.proofs.Marks.{none_yet}
 
@@ -186,6 +188,66 @@ done_settles g u t claims first n c may laws v w has =
           (other_revise g c.connection.structure f v (g.tasks v.member w) (stands_settled g u v c.connection.structure c.id.number (is_commit first) (name_apart g u v t w at other.1 other.0 laws) laws) (laws.done v w other.1))
     ]
 
+-- ---- a get is undone
+
+-- what the unit did before stands: it is of other entries
+before_stands : (g : Group) (u : UnitName) (s : StructNo) (ops : List (StructNo × Op)) (id : EntryId) → is_got (structure_number s, id.number) ops ≡ false → Laws g
+    → IsDone u (ops ++ (s, Got id) ∷ []) (structure_number s) (g.shelves s).entries → IsDone u ops (structure_number s) (settle id.number u false (g.shelves s).entries)
+before_stands g u s ops id ungot laws done =
+    let es = (g.shelves s).entries in
+    let k : ℕ × ℕ = (structure_number s, id.number) in
+    let last = done.gots_stand id.number (got_got k ops s id ∙ (let own = same_key-self k in grind (arith, own))) in
+    record {
+      puts_stand = λ j m found.
+          let d = done.puts_stand j m (ap (message_at (structure_number s, j)) (puts_of_got ops s id) ∙ found) in
+          (d.0, revise_other id.number j (settler u false) es (settler_keeps u false) (λ e. absurd_marks u (entry_at j es) (record { message = m; mark = PutBy u; outside = d.0 }) (record { message = last.0; mark = GotBy u; outside = last.1 }) d.1 (subst (λ n. entry_at n es ≡ Some (record { message = last.0; mark = GotBy u; outside = last.1 })) e last.2) refl refl) ∙ d.1);
+      gots_stand = λ j got.
+          let d = done.gots_stand j (got_before (structure_number s, j) ops s id got) in
+          (d.0, d.1, revise_other id.number j (settler u false) es (settler_keeps u false) (λ e. both_ways (is_got (structure_number s, j) ops) (subst (λ n. is_got (structure_number s, n) ops ≡ false) e ungot) got) ∙ d.2);
+    }
+  where
+    absurd_marks : (u : UnitName) (o : Option Held) (x y : Held) → o ≡ Some x → o ≡ Some y → x.mark ≡ PutBy u → y.mark ≡ GotBy u → ⊥
+    absurd_marks u o x y a b put got = let same : PutBy u ≡ GotBy u = sym put ∙ ap (λ (e : Held). e.mark) (same_Some x y (sym a ∙ b)) ∙ got in absurd cc
+
+own_ungot : (g : Group) (u : UnitName) (t : TaskNo) (ops : List (StructNo × Op)) (claims : List Claim) (c : Claim) → MayUnget g u t ops claims c → Laws g
+    → (x : StructNo) → is_active (at_structure c.connection.structure (with_entries (settle c.id.number u false)) g.shelves x).state ≡ true → IsDone u ops (structure_number x) (at_structure c.connection.structure (with_entries (settle c.id.number u false)) g.shelves x).entries
+own_ungot g u t ops claims c may laws =
+    let s = c.connection.structure in
+    let old = done_of g u t (got_task u ops claims c) may.has refl laws refl in
+    let ready = ready_of g u t (got_task u ops claims c) may.has refl refl laws in
+    every_structure (λ x shelf. is_active shelf.state ≡ true → IsDone u ops (structure_number x) shelf.entries) s (with_entries (settle c.id.number u false)) g.shelves
+    (λ active. before_stands g u s ops c.id (gots_front ops s c.id ready.gots_differ).1 laws (old s active))
+    (λ x differ active. let was = old x active in record {
+      puts_stand = λ id y found. was.puts_stand id y (ap (message_at (structure_number x, id)) (puts_of_got ops s c.id) ∙ found);
+      gots_stand = λ id got. was.gots_stand id (got_before (structure_number x, id) ops s c.id got);
+    })
+
+done_ungets : (g : Group) (u : UnitName) (t : TaskNo) (ops : List (StructNo × Op)) (claims : List Claim) (c : Claim) → MayUnget g u t ops claims c → Laws g
+    → AreDone (with_task u.member t (open_task u ops claims) g.tasks) (at_structure c.connection.structure (with_entries (settle c.id.number u false)) g.shelves)
+done_ungets g u t ops claims c may laws v w has =
+    let new = open_task u ops claims in
+    let s = c.connection.structure in
+    let f = settle c.id.number u false in
+    let shelves = at_structure s (with_entries f) g.shelves in
+    let at = has_unit g u t (got_task u ops claims c) may.has refl in
+    elim (cases_has g.tasks u.member t new v w has) [
+      | inl here ↦ subst (DoneBy shelves v) (sym here.3) (subst (λ (x : UnitName). DoneBy shelves x new) (same_Some u v here.2) (λ undecided. own_ungot g u t ops claims c may laws))
+      | inr other ↦ subst (DoneBy shelves v) (sym other.2)
+          (other_revise g s f v (g.tasks v.member w) (stands_settled g u v s c.id.number false (name_apart g u v t w at other.1 other.0 laws) laws) (laws.done v w other.1))
+    ]
+
+-- ---- an entry goes
+
+stands_forgotten : (g : Group) (v : UnitName) (s : StructNo) (id : ℕ) → MayForget g s id → Laws g → Stands v (g.shelves s).entries (forget id (g.shelves s).entries)
+stands_forgotten g v s id may laws = stands_revise g s v id (λ e. None) forgetter_keeps
+    (λ m outside there. absurd (unmarked (PutBy v) m outside (λ e. cc) there))
+    (λ m outside there. absurd (unmarked (GotBy v) m outside (λ e. cc) there)) laws
+  where
+    unmarked : (mark : Mark) (m : Message) (outside : Bool) → (Cleanup ≡ mark → ⊥) → entry_at id (g.shelves s).entries ≡ Some (record { message = m; mark = mark; outside = outside }) → ⊥
+    unmarked mark m outside differ there = differ (sym may.mark ∙ ap (λ (e : Held). e.mark) (same_Some may.entry (record { message = m; mark = mark; outside = outside }) (sym may.there ∙ there)))
+
+-- ---- a settle by a peer
+
 -- a unit in hand isn't one that failed
 not_failed : (g : Group) (u v : UnitName) (w : TaskNo) → MayPeerSettle g u → Has g.tasks v w → Laws g → same_unit u v ≡ false
 not_failed g u v w may has laws = elim (cases_Bool (same_unit u v)) [
@@ -218,6 +280,8 @@ done_stays g _ (Gets _ u t ops claims s m outside may) laws =
     every_after g.tasks u.member t new (λ v task. DoneBy (at_structure s (with_entries f) g.shelves) v task)
     (λ v i is. subst (λ (x : UnitName). DoneBy (at_structure s (with_entries f) g.shelves) x new) (same_Some u v is) (λ undecided. own_got g u t ops claims s m outside may laws))
     (λ v w has. other_revise g s f v (g.tasks v.member w) (stands_got g u t ops claims s m outside may laws v) (laws.done v w has))
+done_stays g _ (Ungets _ u t ops claims c may) laws = done_ungets g u t ops claims c may laws
+done_stays g _ (Forgets _ s id may) laws = λ v w has. other_revise g s (forget id) v (g.tasks v.member w) (stands_forgotten g v s id may laws) (laws.done v w has)
 done_stays g _ (Begins _ u t ops claims may) laws =
     let new = hardening_task u ops claims (g.logs u.member).next in
     every_after g.tasks u.member t new (λ v task. DoneBy g.shelves v task)

@@ -157,6 +157,13 @@ revise_cases top id j f es x keeps rising there = elim (cases_eq id j) [
   | inr differ ↦ inr (differ, sym (revise_other id j f es keeps differ) ∙ there)
 ]
 
+-- what is there after an entry went was there before
+pub forget_before : (top id j : ℕ) (es : List Held) (x : Held) → AreRising top es → entry_at j (revise id (λ e. None) es) ≡ Some x → entry_at j es ≡ Some x
+forget_before top id j es x rising there = elim (revise_cases top id j (λ e. None) es x (λ e y is. absurd cc) rising there) [
+  | inl here ↦ absurd (none-some x here.3)
+  | inr other ↦ other.1
+]
+
 -- an entry that f leaves as it is stays
 pub revise_stays : (top id j : ℕ) (f : Held → Option Held) (es : List Held) (x : Held) → KeepsId f → AreRising top es → (entry_at id es ≡ Some x → f x ≡ Some x) → entry_at j es ≡ Some x → entry_at j (revise id f es) ≡ Some x
 revise_stays top id j f es x keeps rising same there = elim (cases_eq id j) [

@@ -31,9 +31,9 @@ use Rattle.qsg_group.specs.Group.{Held, Group, idle}
 use Rattle.qsg_group.specs.Observers.{entry_at, top_of, counted, is_undecided, is_hardened, is_persistent}
 use Rattle.qsg_group.specs.Laws.{Has, IsReady, AreReady, AreApart, UnitsAreApart, Laws}
 use Rattle.qsg_group.specs.Changes.{open_task, hardening_task, settling, settling_task, idle_tasks, claim_of, MayPut, MayGet, MayHarden, Change, hardened}
-use Rattle.qsg_group.specs.Changes.Change.{Draws, Puts, Gets, Begins, Hardens, BacksOut, Settles, Finishes, Crashes, Stops, Loses}
-use Rattle.qsg_group.proofs.Keys.{puts_of_put, puts_of_got, gots_of_put, gots_of_got, keys-append, put_put, put_got, got_put, got_got, matched_push, matched_stays}
-use Rattle.qsg_group.proofs.Holding.{with_task, cases_has, every_after}
+use Rattle.qsg_group.specs.Changes.Change.{Draws, Puts, Gets, Ungets, Begins, Hardens, BacksOut, Settles, Finishes, Crashes, Stops, Loses}
+use Rattle.qsg_group.proofs.Keys.{puts_of_put, puts_of_got, gots_of_put, gots_of_got, keys-append, put_put, put_got, got_put, got_got, gots_front, got_before, matched_push, matched_front, matched_stays}
+use Rattle.qsg_group.proofs.Holding.{with_task, got_task, cases_has, every_after}
 use Rattle.qsg_group.proofs.Logs.{ready_of}
 use Rattle.qsg_group.specs.Tables.{at_member}
 use Rattle.qsg_group.proofs.Failing.{has_crashed, every_crashed}
@@ -151,6 +151,17 @@ ready_gets g u t ops claims s m outside may laws =
       ];
     }
 
+-- a unit without its last operation, a get, is as ready
+ready_ungets : (h : List Item) (ops : List (StructNo × Op)) (claims : List Claim) (s : StructNo) (id : EntryId) (c : Claim) → IsReady h (ops ++ (s, Got id) ∷ []) (claims ++ c ∷ []) → IsReady h ops claims
+ready_ungets h ops claims s id c old = record {
+  matched = matched_front h ops claims (s, Got id) c old.matched;
+  puts_differ = subst AllDiffer (ap keys_of (puts_of_got ops s id)) old.puts_differ;
+  gots_differ = (gots_front ops s id old.gots_differ).0;
+  puts_are_new = λ k put. old.puts_are_new k (put_got k ops s id ∙ put);
+  gots_were_put = λ k got. old.gots_were_put k (got_before k ops s id got);
+  gots_are_new = λ k got. old.gots_are_new k (got_before k ops s id got);
+}
+
 -- what is ready stays so where another unit is committed
 ready_hardens : (g : Group) (u : UnitName) (ops : List (StructNo × Op)) (others : List (StructNo × Op)) (claims : List Claim) → AreApart ops others → IsReady g.history others claims → IsReady (g.history ++ UnitOf u ops ∷ []) others claims
 ready_hardens g u ops others claims apart old = record {
@@ -194,6 +205,8 @@ pub ready_stays : (g h : Group) → Change g h → Laws g → AreReady h.history
 ready_stays g _ (Draws _ u t may) laws = every_after g.tasks u.member t (open_task u [] []) (λ v task. IfReady g.history task) (λ v e is. λ undecided. no_ops g.history) laws.ready
 ready_stays g _ (Puts _ u t ops claims s m outside may) laws = every_after g.tasks u.member t (open_task u (ops ++ (s, Put m) ∷ []) (claims ++ claim_of s (g.shelves s) m ∷ [])) (λ v task. IfReady g.history task) (λ v e is. λ undecided. ready_puts g u t ops claims s m may laws) laws.ready
 ready_stays g _ (Gets _ u t ops claims s m outside may) laws = every_after g.tasks u.member t (open_task u (ops ++ (s, Got m.id) ∷ []) (claims ++ claim_of s (g.shelves s) m ∷ [])) (λ v task. IfReady g.history task) (λ v e is. λ undecided. ready_gets g u t ops claims s m outside may laws) laws.ready
+ready_stays g _ (Ungets _ u t ops claims c may) laws = every_after g.tasks u.member t (open_task u ops claims) (λ v task. IfReady g.history task)
+    (λ v e is. λ undecided. ready_ungets g.history ops claims c.connection.structure c.id c (ready_of g u t (got_task u ops claims c) may.has refl refl laws)) laws.ready
 ready_stays g _ (Begins _ u t ops claims may) laws = every_after g.tasks u.member t (hardening_task u ops claims (g.logs u.member).next) (λ v task. IfReady g.history task) (λ v e is. λ undecided. ready_of g u t (open_task u ops claims) may.has refl refl laws) laws.ready
 ready_stays g _ (Hardens _ u t ops claims first next may) laws = ready_other g u t ops claims first next may laws
 ready_stays g _ (BacksOut _ u t ops claims may) laws = every_after g.tasks u.member t (settling_task u claims None 0) (λ v task. IfReady g.history task) (λ v e is. λ undecided. absurd cc) laws.ready
@@ -266,6 +279,18 @@ apart_got ops ys s id fresh a b =
       },
     )
 
+apart_ungot : (ops ys : List (StructNo × Op)) (s : StructNo) (id : EntryId) → AreApart (ops ++ (s, Got id) ∷ []) ys × AreApart ys (ops ++ (s, Got id) ∷ []) → AreApart ops ys × AreApart ys ops
+apart_ungot ops ys s id old = (
+  record {
+    puts_apart = λ k put. old.0.puts_apart k (put_got k ops s id ∙ put);
+    gots_apart = λ k got. old.0.gots_apart k (got_before k ops s id got);
+  },
+  record {
+    puts_apart = λ k put. sym (put_got k ops s id) ∙ old.1.puts_apart k put;
+    gots_apart = λ k got. let none = sym (got_got k ops s id) ∙ old.1.gots_apart k got in grind (arith, none);
+  },
+)
+
 -- the unit of a task and another undecided one are apart, both ways
 old_apart : (g : Group) (u v : UnitName) (t w : TaskNo) (task : Task) → g.tasks u.member t ≡ task → task.unit ≡ Some u → is_undecided task.stage ≡ true → Has g.tasks v w → is_undecided (g.tasks v.member w).stage ≡ true → (v.member ≡ u.member → w ≡ t → ⊥) → Laws g
     → AreApart task.ops (g.tasks v.member w).ops × AreApart (g.tasks v.member w).ops task.ops
@@ -286,6 +311,8 @@ apart_stays g _ (Puts _ u t ops claims s m outside may) laws = apart_after g u.m
 apart_stays g _ (Gets _ u t ops claims s m outside may) laws = apart_after g u.member t (open_task u (ops ++ (s, Got m.id) ∷ []) (claims ++ claim_of s (g.shelves s) m ∷ []))
     (λ x v w is has a b differ names. let old = old_apart g u v t w (open_task u ops claims) may.has refl refl has b differ laws in
     apart_got ops (g.tasks v.member w).ops s m.id (ungot_by g v w s m outside may.active may.there has b laws) old.0 old.1) laws
+apart_stays g _ (Ungets _ u t ops claims c may) laws = apart_after g u.member t (open_task u ops claims)
+    (λ x v w is has a b differ names. apart_ungot ops (g.tasks v.member w).ops c.connection.structure c.id (old_apart g u v t w (got_task u ops claims c) may.has refl refl has b differ laws)) laws
 apart_stays g _ (Begins _ u t ops claims may) laws = apart_after g u.member t (hardening_task u ops claims (g.logs u.member).next) (λ x v w is has a b differ names. old_apart g u v t w (open_task u ops claims) may.has refl refl has b differ laws) laws
 apart_stays g _ (Hardens _ u t ops claims first next may) laws = apart_after g u.member t (settling_task u claims (Some (g.logs u.member).next) 0) (λ x v w is has a b differ names. absurd cc) laws
 apart_stays g _ (BacksOut _ u t ops claims may) laws = apart_after g u.member t (settling_task u claims None 0) (λ x v w is has a b differ names. absurd cc) laws

@@ -1,15 +1,20 @@
 -- one task changed: what holds of every unit in hand, and what marks name
-use Rattle.std.proofs.Common.{◌≡◌, ℕ, Bool, Some, refl, sym, ap, subst, ◌∙◌, inl, inr}
+use Rattle.std.proofs.Common.{◌≡◌, ℕ, Bool, List, [], ◌∷◌, ◌++◌, Some, refl, sym, ap, subst, ◌∙◌, inl, inr}
 use Rattle.std.specs.Prelude.{◌⊎◌}
 use Rattle.qsg_num.specs.declared.seats.Member.{Member}
+use Rattle.qsg_num.specs.declared.seats.StructNo.{StructNo}
 use Rattle.qsg_num.specs.declared.seats.TaskNo.{TaskNo}
 use Rattle.qsg_num.specs.declared.ids.UnitName.{UnitName}
 use Rattle.qsg_msg.specs.declared.message.Message.{Message}
+use Rattle.qsg_model.specs.declared.history.Op.{Op}
+use Rattle.qsg_model.specs.declared.history.Op.TheVariants.{Got}
 use Rattle.qsg_lists.specs.declared.parts.Mark.{Mark}
 use Rattle.qsg_lists.specs.declared.parts.Mark.TheVariants.{Visible, PutBy, GotBy, Cleanup}
+use Rattle.qsg_group.specs.declared.tasks.Claim.{Claim}
 use Rattle.qsg_group.specs.declared.tasks.Task.{Task}
 use Rattle.qsg_group.specs.Tables.{at_task}
 use Rattle.qsg_group.specs.Laws.{Has, Names, PutsBy, GetsBy, MarkNames}
+use Rattle.qsg_group.specs.Changes.{open_task}
 use Rattle.qsg_group.proofs.Tables.{cases_at}
 
 -- this holds of every unit in hand
@@ -18,6 +23,10 @@ Every tasks P = (u : UnitName) (t : TaskNo) → Has tasks u t → P u (tasks u.m
 
 abbrev pub with_task : Member → TaskNo → Task → (Member → TaskNo → Task) → Member → TaskNo → Task
 with_task m t new tasks = at_task m t (λ old. new) tasks
+
+-- a task whose unit's last operation is a get
+abbrev pub got_task : UnitName → List (StructNo × Op) → List Claim → Claim → Task
+got_task u ops claims c = open_task u (ops ++ (c.connection.structure, Got c.id) ∷ []) (claims ++ c ∷ [])
 
 -- a unit in hand is that of the new task, or one of another
 pub cases_has : (tasks : Member → TaskNo → Task) (m : Member) (t : TaskNo) (new : Task) (u : UnitName) (k : TaskNo) → Has (with_task m t new tasks) u k

@@ -23,13 +23,13 @@ use Rattle.qsg_group.specs.Group.{Held, Run, Log, Group, idle}
 use Rattle.qsg_group.specs.Observers.{entry_at, top_of, revise, has_run, is_committed, is_hardened, logged_ops}
 use Rattle.qsg_group.specs.Laws.{is_pending, Has, Names, PutsBy, GetsBy, MarkNames, RunsFrom, IsKept, AreKept, IsPlaced, Laws}
 use Rattle.qsg_group.specs.Changes.{open_task, hardening_task, settling_task, is_commit, with_entry, with_entries, with_run, marked, settle, lost_shelf, claim_of, IsNeededFrom, MayPut, MayGet, MayHarden, MayPublish, Change, hardened, published, given_up}
-use Rattle.qsg_group.specs.Changes.Change.{Draws, Puts, Gets, Begins, Hardens, BacksOut, Settles, Finishes, Publishes, GivesUp, Crashes, Stops, PeerSettles, Loses}
+use Rattle.qsg_group.specs.Changes.Change.{Draws, Puts, Gets, Ungets, Forgets, Begins, Hardens, BacksOut, Settles, Finishes, Publishes, GivesUp, Crashes, Stops, PeerSettles, Loses}
 use Rattle.qsg_group.proofs.Tables.{every_structure, moved}
 use Rattle.qsg_group.proofs.Entries.{push_cases, revise_cases}
-use Rattle.qsg_group.proofs.Holding.{with_task, every_after}
+use Rattle.qsg_group.proofs.Holding.{with_task, got_task, every_after}
 use Rattle.qsg_group.proofs.Failing.{every_crashed}
 use Rattle.qsg_group.proofs.Pages.{has_unit, unrun, from_push, kept_filter, from_higher, from_place, undrawn_run}
-use Rattle.qsg_group.proofs.Shelves.{left_of, settler, settler_keeps, marker_keeps}
+use Rattle.qsg_group.proofs.Shelves.{left_of, settler, settler_keeps, marker_keeps, was_there}
 use Rattle.qsg_group.proofs.Marks.{none_yet}
 
 -- the run of this unit
@@ -174,6 +174,14 @@ kept_stays g _ (Puts _ u t ops claims s m outside may) laws = record {
 kept_stays g _ (Gets _ u t ops claims s m outside may) laws = record {
   of_marked = marks_got g u t ops claims s m outside may laws;
   of_held = held_after g u.member t (open_task u (ops ++ (s, Rattle.qsg_model.specs.declared.history.Op.TheVariants.Got m.id) ∷ []) (claims ++ claim_of s (g.shelves s) m ∷ [])) (own_kept g u t (open_task u ops claims) may.has refl laws) laws;
+}
+kept_stays g _ (Ungets _ u t ops claims c may) laws = record {
+  of_marked = marks_settled g c.connection.structure c.id.number u false laws;
+  of_held = held_after g u.member t (open_task u ops claims) (own_kept g u t (got_task u ops claims c) may.has refl laws) laws;
+}
+kept_stays g _ (Forgets _ s n may) laws = record {
+  of_marked = λ x id e there. laws.kept.of_marked x id e (was_there g s n laws x id e there);
+  of_held = laws.kept.of_held;
 }
 kept_stays g _ (Begins _ u t ops claims may) laws = record {
   of_marked = laws.kept.of_marked;

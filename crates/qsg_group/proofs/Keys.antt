@@ -1,10 +1,11 @@
 -- operations, claims and what logs tell, with one more
-use Rattle.std.proofs.Common.{◌≡◌, ℕ, Bool, true, false, cond, List, [], ◌∷◌, ◌++◌, Some, None, refl, sym, ap, ◌∙◌, arith, inl, inr, append_assoc, filter}
-use Rattle.std.specs.Prelude.{◌==◌, ◌||◌, nat_le}
+use Rattle.std.proofs.Common.{◌≡◌, ℕ, Bool, true, false, cond, List, [], ◌∷◌, ◌++◌, Some, None, refl, sym, ap, subst, ◌∙◌, arith, inl, inr, append_assoc, filter}
+use Rattle.std.specs.Prelude.{◌==◌, ◌||◌, nat_le, Contains}
 use Rattle.std.specs.List.{list_any}
 use Rattle.std.proofs.lemmas.List.{append-nil}
 use Rattle.std.proofs.lemmas.List.Concat.{flat_map-append}
 use Rattle.std.proofs.lemmas.List.Folds.{list_any-append}
+use Rattle.std.proofs.lemmas.List.Elements.{Contains-append_left, Contains-append_right}
 use Rattle.std.proofs.lemmas.Bool.{cases_Bool}
 use Rattle.std.proofs.lemmas.Bool.Decides.{nat_tests}
 use Rattle.qsg_num.specs.declared.seats.Member.{Member}
@@ -18,9 +19,10 @@ use Rattle.qsg_model.specs.declared.history.Op.{Op}
 use Rattle.qsg_model.specs.declared.history.Op.TheVariants.{Put, Got}
 use Rattle.qsg_model.specs.declared.history.Item.{Item}
 use Rattle.qsg_model.specs.declared.history.Item.TheVariants.{Unit as UnitOf, Lost, Purged}
-use Rattle.qsg_model.specs.History.{key, same_key, has_key, puts, gots, put_by, got_by, ops_by, put_keys}
+use Rattle.qsg_model.specs.History.{key, same_key, has_key, puts, gots, put_by, got_by, ops_by, put_keys, AllDiffer}
 use Rattle.qsg_model.specs.Past.{message_at, all_puts, keys_of, is_put, is_got, was_put, is_unit, or_else}
 use Rattle.qsg_model.proofs.Keyed.{message_at-append, message_at-some}
+use Rattle.qsg_model.proofs.Differing.{at_head, none_in_empty, head_or_tail, has_contains}
 use Rattle.qsg_group.specs.declared.tasks.Claim.{Claim}
 use Rattle.qsg_group.specs.Group.{Run}
 use Rattle.qsg_group.specs.Observers.{has_run, is_persistent, is_lasting, told_by, told_from, told, key_of_claim, keys_claimed, key_of_op, logged_ops}
@@ -67,6 +69,37 @@ got_got k ops s id = ap (λ ks. has_key ks k) (gots_of_got ops s id) ∙ has_pus
 pub message_of_put : (k : ℕ × ℕ) (ops : List (StructNo × Op)) (s : StructNo) (m : Message) → message_at k (puts (ops ++ (s, Put m) ∷ [])) ≡ or_else (message_at k (puts ops)) (cond (same_key k (key m)) (Some m) None)
 message_of_put k ops s m = ap (message_at k) (puts_of_put ops s m) ∙ message_at-append k (puts ops) (m ∷ [])
 
+-- ---- operations without the last one
+
+differ_front : (ks : List (ℕ × ℕ)) (k : ℕ × ℕ) → AllDiffer (ks ++ k ∷ []) → AllDiffer ks × (Contains ks k → ⊥)
+differ_front [] k differ = (tt, none_in_empty k)
+differ_front (j ∷ ks) k differ =
+    let rest = differ_front ks k differ.1 in (
+      ((λ c. differ.0 (Contains-append_left ks (k ∷ []) j c)), rest.0),
+      (λ c. elim (head_or_tail j k ks c) [
+        | inl same ↦ differ.0 (subst (λ x. Contains (ks ++ k ∷ []) x) (sym same) (Contains-append_right ks (k ∷ []) k (at_head k [])))
+        | inr later ↦ rest.1 later
+      ]),
+    )
+
+-- the gets before the last one differ, and none is of its key
+pub gots_front : (ops : List (StructNo × Op)) (s : StructNo) (id : EntryId) → AllDiffer (gots (ops ++ (s, Got id) ∷ [])) → AllDiffer (gots ops) × (is_got (structure_number s, id.number) ops ≡ false)
+gots_front ops s id differ =
+    let front = differ_front (gots ops) (structure_number s, id.number) (subst AllDiffer (gots_of_got ops s id) differ) in (
+      front.0,
+      elim (cases_Bool (is_got (structure_number s, id.number) ops)) [
+        | inl got ↦ absurd (front.1 (has_contains (gots ops) (structure_number s, id.number) got))
+        | inr ungot ↦ ungot
+      ],
+    )
+
+-- what was got before, and what of another key was got at all
+pub got_before : (k : ℕ × ℕ) (ops : List (StructNo × Op)) (s : StructNo) (id : EntryId) → is_got k ops ≡ true → is_got k (ops ++ (s, Got id) ∷ []) ≡ true
+got_before k ops s id got = got_got k ops s id ∙ grind (arith, got)
+
+pub got_other : (k : ℕ × ℕ) (ops : List (StructNo × Op)) (s : StructNo) (id : EntryId) → same_key k (structure_number s, id.number) ≡ false → is_got k (ops ++ (s, Got id) ∷ []) ≡ true → is_got k ops ≡ true
+got_other k ops s id differ got = let either = sym (got_got k ops s id) ∙ got in grind (arith, either, differ)
+
 -- ---- claims
 
 pub matched_push : (h : List Item) (ops : List (StructNo × Op)) (claims : List Claim) (w : StructNo × Op) (c : Claim) → AreMatched h ops claims → key_of_claim c ≡ key_of_op w → c.persistent ≡ is_lasting h w → AreMatched h (ops ++ w ∷ []) (claims ++ c ∷ [])
@@ -74,6 +107,14 @@ matched_push h [] [] w c matched key_is lasts = (key_is, lasts, tt)
 matched_push h [] (d ∷ claims) w c matched key_is lasts = absurd matched
 matched_push h (v ∷ ops) [] w c matched key_is lasts = absurd matched
 matched_push h (v ∷ ops) (d ∷ claims) w c matched key_is lasts = (matched.0, matched.1, matched_push h ops claims w c matched.2 key_is lasts)
+
+pub matched_front : (h : List Item) (ops : List (StructNo × Op)) (claims : List Claim) (w : StructNo × Op) (c : Claim) → AreMatched h (ops ++ w ∷ []) (claims ++ c ∷ []) → AreMatched h ops claims
+matched_front h [] [] w c matched = tt
+matched_front h [] (d ∷ []) w c matched = absurd matched.2
+matched_front h [] (d ∷ e ∷ claims) w c matched = absurd matched.2
+matched_front h (v ∷ []) [] w c matched = absurd matched.2
+matched_front h (v ∷ x ∷ ops) [] w c matched = absurd matched.2
+matched_front h (v ∷ ops) (d ∷ claims) w c matched = (matched.0, matched.1, matched_front h ops claims w c matched.2)
 
 pub put_claimed : (h : List Item) (k : ℕ × ℕ) (ops : List (StructNo × Op)) (claims : List Claim) → AreMatched h ops claims → is_put k ops ≡ true → has_key (keys_claimed claims) k ≡ true
 put_claimed h k [] claims matched put = absurd cc

@@ -16,7 +16,7 @@ use Rattle.qsg_group.specs.Group.{Run, Log, Group, idle}
 use Rattle.qsg_group.specs.Observers.{is_hardening, logged_ops}
 use Rattle.qsg_group.specs.Laws.{IsNext, AreLatched, Laws}
 use Rattle.qsg_group.specs.Changes.{hardening_task, settling_task, with_run, idle_tasks, MayBegin, MayHarden, Change, hardened}
-use Rattle.qsg_group.specs.Changes.Change.{Draws, Puts, Gets, Begins, Hardens, BacksOut, Settles, Finishes, Publishes, GivesUp, Crashes, Stops}
+use Rattle.qsg_group.specs.Changes.Change.{Draws, Puts, Gets, Ungets, Begins, Hardens, BacksOut, Settles, Finishes, Publishes, GivesUp, Crashes, Stops}
 use Rattle.qsg_group.proofs.Tables.{moved, cases_at}
 use Rattle.qsg_group.proofs.Holding.{with_task}
 use Rattle.qsg_group.proofs.Failing.{task_crashed}
@@ -99,6 +99,7 @@ pub latched_stays : (g h : Group) → Change g h → Laws g → AreLatched h.log
 latched_stays g _ (Draws _ u t may) laws = quiet_tasks g u.member t _ refl laws
 latched_stays g _ (Puts _ u t ops claims s m outside may) laws = quiet_tasks g u.member t _ refl laws
 latched_stays g _ (Gets _ u t ops claims s m outside may) laws = quiet_tasks g u.member t _ refl laws
+latched_stays g _ (Ungets _ u t ops claims c may) laws = quiet_tasks g u.member t _ refl laws
 latched_stays g _ (Begins _ u t ops claims may) laws = latched_begins g u t ops claims may laws
 latched_stays g _ (Hardens _ u t ops claims first next may) laws = latched_hardens g u t ops claims first next may laws
 latched_stays g _ (BacksOut _ u t ops claims may) laws = quiet_tasks g u.member t _ refl laws

@@ -28,16 +28,16 @@ use Rattle.qsg_group.specs.Tables.{at_structure}
 use Rattle.qsg_group.specs.Group.{Held, Group, idle}
 use Rattle.qsg_group.specs.Observers.{entry_at, top_of, revise, is_committed, key_of_claim, keys_claimed}
 use Rattle.qsg_group.specs.Laws.{is_pending, Names, PutsBy, GetsBy, MarkNames, AreMarked, IsReady, Laws}
-use Rattle.qsg_group.specs.Changes.{open_task, hardening_task, settling, is_commit, settling_task, with_entry, with_entries, marked, settle, lost_shelf, claim_of, MayPut, MayGet, MaySettle, MayFinish, Change}
-use Rattle.qsg_group.specs.Changes.Change.{Draws, Puts, Gets, Begins, Hardens, BacksOut, Settles, Finishes, Crashes, Stops, PeerSettles, Resolves, Loses}
+use Rattle.qsg_group.specs.Changes.{open_task, hardening_task, settling, is_commit, settling_task, with_entry, with_entries, marked, settle, lost_shelf, claim_of, MayPut, MayGet, MayUnget, MaySettle, MayFinish, Change}
+use Rattle.qsg_group.specs.Changes.Change.{Draws, Puts, Gets, Ungets, Forgets, Begins, Hardens, BacksOut, Settles, Finishes, Crashes, Stops, PeerSettles, Resolves, Loses}
 use Rattle.qsg_group.proofs.Tables.{every_structure, cases_at, same_structure, task-same}
 use Rattle.qsg_group.proofs.Entries.{above_none, push_cases, revise_cases}
-use Rattle.qsg_group.proofs.Keys.{puts_of_got, got_put, got_got, message_of_put, put_claimed, got_claimed}
-use Rattle.qsg_group.proofs.Holding.{with_task, Goes, mark_after}
+use Rattle.qsg_group.proofs.Keys.{puts_of_got, got_put, got_got, got_other, message_of_put, put_claimed, got_claimed}
+use Rattle.qsg_group.proofs.Holding.{with_task, got_task, Goes, mark_after}
 use Rattle.qsg_group.proofs.Logs.{ready_of}
 use Rattle.qsg_group.proofs.Failing.{mark_crash, mark_stop, mark_resolve}
 use Rattle.qsg_group.proofs.Pages.{has_unit}
-use Rattle.qsg_group.proofs.Shelves.{left_of, settler, settler_keeps, marker_keeps}
+use Rattle.qsg_group.proofs.Shelves.{left_of, settler, settler_keeps, marker_keeps, was_there}
 use Rattle.qsg_group.proofs.Following.{name_apart}
 
 -- ---- marks over one structure
@@ -208,6 +208,41 @@ marked_settles g u t claims first n c may laws =
     ])
     (λ x differ id e there. other_goes g u t claims first n c may (structure_number x, id) e.message e.mark (inl (key_differs s x id c.id.number (λ same d. differ (ap structure_number same)))) (laws.marked x id e there))
 
+-- ---- a get is undone
+
+goes_ungot : (u v : UnitName) (ops : List (StructNo × Op)) (claims : List Claim) (c : Claim) (k : ℕ × ℕ) (msg : Message) (mark : Mark)
+    → (same_key k (key_of_claim c) ≡ false) ⊎ ((mark ≡ PutBy u → ⊥) × (mark ≡ GotBy u → ⊥)) → Some u ≡ Some v → Goes (got_task u ops claims c) (open_task u ops claims) v k msg mark
+goes_ungot u v ops claims c k msg mark apart is = record {
+  puts_go = λ e due. ap (message_at k) (sym (puts_of_got ops c.connection.structure c.id)) ∙ due;
+  gots_go = λ e due. elim apart [
+    | inl differ ↦ got_other k ops c.connection.structure c.id differ due
+    | inr unmarked ↦ absurd (unmarked.1 (e ∙ ap (λ (x : UnitName). GotBy x) (sym (same_Some u v is))))
+  ];
+}
+
+-- a mark of another unit, or of another key
+other_ungot : (g : Group) (u : UnitName) (t : TaskNo) (ops : List (StructNo × Op)) (claims : List Claim) (c : Claim) → MayUnget g u t ops claims c → (k : ℕ × ℕ) (msg : Message) (mark : Mark)
+    → (same_key k (key_of_claim c) ≡ false) ⊎ ((mark ≡ PutBy u → ⊥) × (mark ≡ GotBy u → ⊥)) → MarkNames g.failed g.tasks k msg mark → MarkNames g.failed (with_task u.member t (open_task u ops claims) g.tasks) k msg mark
+other_ungot g u t ops claims c may k msg mark apart names = mark_after g.failed g.tasks u.member t (open_task u ops claims) k msg mark (sym (ap (λ (x : Task). x.unit) may.has))
+    (λ v is. subst (λ (x : Task). Goes x (open_task u ops claims) v k msg mark) (sym may.has) (goes_ungot u v ops claims c k msg mark apart is))
+    names
+
+marked_ungets : (g : Group) (u : UnitName) (t : TaskNo) (ops : List (StructNo × Op)) (claims : List Claim) (c : Claim) → MayUnget g u t ops claims c → Laws g
+    → AreMarked g.failed (with_task u.member t (open_task u ops claims) g.tasks) (at_structure c.connection.structure (with_entries (settle c.id.number u false)) g.shelves)
+marked_ungets g u t ops claims c may laws =
+    let s = c.connection.structure in
+    let tasks = with_task u.member t (open_task u ops claims) g.tasks in
+    every_structure (λ x shelf. MarksOf g.failed tasks x shelf.entries) s (with_entries (settle c.id.number u false)) g.shelves
+    (λ id x there. elim (revise_cases (top_of (g.shelves s)) c.id.number id (settler u false) (g.shelves s).entries x (settler_keeps u false) (laws.shelves s).rising there) [
+      | inl here ↦ elim (left_of u false here.1.mark here.1 x here.3).1 [
+        | inl quiet ↦ quiet_mark g.failed tasks (structure_number s, id) x.message x.mark quiet
+        | inr same ↦ subst (λ (y : Held). MarkNames g.failed tasks (structure_number s, id) y.message y.mark) (sym same.0)
+            (other_ungot g u t ops claims c may (structure_number s, id) here.1.message here.1.mark (inr (same.1, same.2)) (laws.marked s id here.1 (subst (λ j. entry_at j (g.shelves s).entries ≡ Some here.1) here.0 here.2)))
+      ]
+      | inr other ↦ other_ungot g u t ops claims c may (structure_number s, id) x.message x.mark (inl (key_differs s s id c.id.number (λ e d. other.0 (sym d)))) (laws.marked s id x other.1)
+    ])
+    (λ x differ id e there. other_ungot g u t ops claims c may (structure_number x, id) e.message e.mark (inl (key_differs s x id c.id.number (λ same d. differ (ap structure_number same)))) (laws.marked x id e there))
+
 marked_peer_settles : (g : Group) (s : StructNo) (n : ℕ) (u : UnitName) (commits : Bool) → Laws g → AreMarked g.failed g.tasks (at_structure s (with_entries (settle n u commits)) g.shelves)
 marked_peer_settles g s n u commits laws = every_structure (λ x shelf. MarksOf g.failed g.tasks x shelf.entries) s (with_entries (settle n u commits)) g.shelves
     (λ id x there. elim (revise_cases (top_of (g.shelves s)) n id (settler u commits) (g.shelves s).entries x (settler_keeps u commits) (laws.shelves s).rising there) [
@@ -266,6 +301,8 @@ pub marked_stays : (g h : Group) → Change g h → Laws g → AreMarked h.faile
 marked_stays g _ (Draws _ u t may) laws = λ s id e there. marks_draw g u t (open_task u [] []) (structure_number s, id) e.message e.mark (ap (λ (x : Task). x.unit) may.free) (laws.marked s id e there)
 marked_stays g _ (Puts _ u t ops claims s m outside may) laws = marked_puts g u t ops claims s m outside may laws
 marked_stays g _ (Gets _ u t ops claims s m outside may) laws = marked_gets g u t ops claims s m outside may laws
+marked_stays g _ (Ungets _ u t ops claims c may) laws = marked_ungets g u t ops claims c may laws
+marked_stays g _ (Forgets _ s n may) laws = λ x id e there. laws.marked x id e (was_there g s n laws x id e there)
 marked_stays g _ (Begins _ u t ops claims may) laws = marks_go g u.member t (open_task u ops claims) (hardening_task u ops claims (g.logs u.member).next) may.has refl (λ v k msg mark is. record { puts_go = λ e due. due; gots_go = λ e due. due }) laws
 marked_stays g _ (Hardens _ u t ops claims first next may) laws = marks_go g u.member t (hardening_task u ops claims first) (settling_task u claims (Some (g.logs u.member).next) 0) may.has refl
     (λ v k msg mark is. claimed_goes g u v ops claims (Hardening (record { number = first })) Open (Some (g.logs u.member).next) (ready_of g u t (hardening_task u ops claims first) may.has refl refl laws) k msg mark (λ due. due) (λ due. due)) laws

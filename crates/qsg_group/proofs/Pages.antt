@@ -21,7 +21,7 @@ use Rattle.qsg_model.specs.Past.{is_unit}
 use Rattle.qsg_group.specs.Observers.{has_run, is_hardened, logged_ops, told}
 use Rattle.qsg_group.specs.Laws.{told_of, Has, RunsFrom, RunsAt, IsPlaced, ArePlaced, Laws}
 use Rattle.qsg_group.specs.Changes.{hardening_task, settling, settling_task, with_run, MayDraw, MayHarden, Change, hardened}
-use Rattle.qsg_group.specs.Changes.Change.{Draws, Puts, Gets, Begins, Hardens, BacksOut, Settles, Finishes, Publishes, GivesUp, Crashes, Stops}
+use Rattle.qsg_group.specs.Changes.Change.{Draws, Puts, Gets, Ungets, Begins, Hardens, BacksOut, Settles, Finishes, Publishes, GivesUp, Crashes, Stops}
 use Rattle.qsg_group.proofs.Tables.{moved, same_member}
 use Rattle.qsg_group.proofs.Keys.{tells_of, told_is_unit}
 use Rattle.qsg_group.proofs.Holding.{with_task, cases_has, every_after}
@@ -152,6 +152,7 @@ pub placed_stays : (g h : Group) → Change g h → Laws g → ArePlaced h.logs 
 placed_stays g _ (Draws _ u t may) laws = placed_tasks g u.member t _ (λ v m e. tt) laws
 placed_stays g _ (Puts _ u t ops claims s m outside may) laws = placed_tasks g u.member t _ (λ v m e. tt) laws
 placed_stays g _ (Gets _ u t ops claims s m outside may) laws = placed_tasks g u.member t _ (λ v m e. tt) laws
+placed_stays g _ (Ungets _ u t ops claims c may) laws = placed_tasks g u.member t _ (λ v m e. tt) laws
 placed_stays g _ (Begins _ u t ops claims may) laws = placed_tasks g u.member t _ (λ v m e. tt) laws
 placed_stays g _ (Hardens _ u t ops claims first next may) laws = placed_hardens g u t ops claims first next may laws
 placed_stays g _ (BacksOut _ u t ops claims may) laws = placed_tasks g u.member t _ (λ v m e. tt) laws

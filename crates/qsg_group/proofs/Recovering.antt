@@ -17,15 +17,15 @@ use Rattle.qsg_group.specs.Tables.{at_structure}
 use Rattle.qsg_group.specs.Group.{Shelf, Group, idle}
 use Rattle.qsg_group.specs.Observers.{revise, is_committed, IsElsewhere}
 use Rattle.qsg_group.specs.Laws.{IsNoted, AreNoted, IsEmptied, AreEmptied, AreResting, Laws}
-use Rattle.qsg_group.specs.Changes.{open_task, hardening_task, settling_task, is_commit, with_entry, with_entries, marked, settle, lost_shelf, in_recovery, purged_top, reopened_shelf, claim_of, Change}
-use Rattle.qsg_group.specs.Changes.Change.{Draws, Puts, Gets, Begins, Hardens, BacksOut, Settles, Finishes, Crashes, Stops, PeerSettles, Loses, Recovers, Purges, Reopens}
+use Rattle.qsg_group.specs.Changes.{open_task, hardening_task, settling_task, is_commit, with_entry, with_entries, marked, settle, forget, lost_shelf, in_recovery, purged_top, reopened_shelf, claim_of, Change}
+use Rattle.qsg_group.specs.Changes.Change.{Draws, Puts, Gets, Ungets, Forgets, Begins, Hardens, BacksOut, Settles, Finishes, Crashes, Stops, PeerSettles, Loses, Recovers, Purges, Reopens}
 use Rattle.qsg_group.proofs.Tables.{every_structure, same_structure}
-use Rattle.qsg_group.proofs.Holding.{Every, every_after}
+use Rattle.qsg_group.proofs.Holding.{Every, got_task, every_after}
 use Rattle.qsg_group.proofs.Failing.{every_crashed}
 use Rattle.qsg_group.proofs.Logs.{ready_of}
 use Rattle.qsg_group.proofs.Losing.{count_lost}
 use Rattle.qsg_group.proofs.Pages.{has_unit}
-use Rattle.qsg_group.proofs.Shelves.{claims_push}
+use Rattle.qsg_group.proofs.Shelves.{claims_push, claims_front}
 use Rattle.qsg_group.proofs.Purging.{count_purged, count_purged_own, count_lost_own, count_unit, past_lost, past_purged, lost_own, emptied_same, not_both, recovers_inactive, emptied_begins, emptied_purged, emptied_commits}
 
 -- ---- notes
@@ -52,6 +52,8 @@ pub noted_stays : (g h : Group) → Change g h → Laws g → AreNoted h.history
 noted_stays g _ (Puts _ u t ops claims s m outside may) laws = noted_same g s (with_entry (record { message = m; mark = PutBy u; outside = outside })) (λ shelf. (refl, refl)) laws
 noted_stays g _ (Gets _ u t ops claims s m outside may) laws = noted_same g s (with_entries (revise m.id.number (marked (GotBy u)))) (λ shelf. (refl, refl)) laws
 noted_stays g _ (Settles _ u t claims first n c may) laws = noted_same g c.connection.structure (with_entries (settle c.id.number u (is_commit first))) (λ shelf. (refl, refl)) laws
+noted_stays g _ (Ungets _ u t ops claims c may) laws = noted_same g c.connection.structure (with_entries (settle c.id.number u false)) (λ shelf. (refl, refl)) laws
+noted_stays g _ (Forgets _ s id may) laws = noted_same g s (with_entries (forget id)) (λ shelf. (refl, refl)) laws
 noted_stays g _ (PeerSettles _ s id u may) laws = noted_same g s (with_entries (settle id u (is_committed g.logs u))) (λ shelf. (refl, refl)) laws
 noted_stays g _ (Hardens _ u t ops claims first next may) laws = λ s. recount (count_of (structure_number s) g.history) (count_of (structure_number s) (g.history ++ UnitOf u ops ∷ [])) (g.tops s) (g.shelves s) (count_unit (structure_number s) g.history u ops) (laws.noted s)
 noted_stays g _ (Loses _ s may) laws = every_structure (λ x shelf. IsNoted (count_of (structure_number x) (g.history ++ Lost s ∷ [])) (g.tops x) shelf) s lost_shelf g.shelves
@@ -77,6 +79,8 @@ pub emptied_stays : (g h : Group) → Change g h → Laws g → AreEmptied h.his
 emptied_stays g _ (Puts _ u t ops claims s m outside may) laws = emptied_at g s (with_entry (record { message = m; mark = PutBy u; outside = outside })) (λ shelf. refl) laws
 emptied_stays g _ (Gets _ u t ops claims s m outside may) laws = emptied_at g s (with_entries (revise m.id.number (marked (GotBy u)))) (λ shelf. refl) laws
 emptied_stays g _ (Settles _ u t claims first n c may) laws = emptied_at g c.connection.structure (with_entries (settle c.id.number u (is_commit first))) (λ shelf. refl) laws
+emptied_stays g _ (Ungets _ u t ops claims c may) laws = emptied_at g c.connection.structure (with_entries (settle c.id.number u false)) (λ shelf. refl) laws
+emptied_stays g _ (Forgets _ s id may) laws = emptied_at g s (with_entries (forget id)) (λ shelf. refl) laws
 emptied_stays g _ (PeerSettles _ s id u may) laws = emptied_at g s (with_entries (settle id u (is_committed g.logs u))) (λ shelf. refl) laws
 emptied_stays g _ (Hardens _ u t ops claims first next may) laws = λ s.
     let at = has_unit g u t (hardening_task u ops claims first) may.has refl in
@@ -122,6 +126,12 @@ resting_stays g _ (Gets _ u t ops claims s m outside may) laws = λ x now.
     every_after g.tasks u.member t (open_task u (ops ++ (s, Got m.id) ∷ []) (claims ++ claim_of s (g.shelves s) m ∷ [])) (RestsAt x)
     (λ v i e. claims_push (IsElsewhere x) claims (claim_of s (g.shelves s) m) (rests_of g x u t (open_task u ops claims) may.has refl recovers laws) (claim_rests g s x m may.active recovers))
     (laws.resting x recovers)
+resting_stays g _ (Ungets _ u t ops claims c may) laws = λ x now.
+    let recovers = still g c.connection.structure (with_entries (settle c.id.number u false)) (λ shelf. refl) x now in
+    every_after g.tasks u.member t (open_task u ops claims) (RestsAt x)
+    (λ v i e. claims_front (IsElsewhere x) claims c (rests_of g x u t (got_task u ops claims c) may.has refl recovers laws))
+    (laws.resting x recovers)
+resting_stays g _ (Forgets _ s id may) laws = λ x now. laws.resting x (still g s (with_entries (forget id)) (λ shelf. refl) x now)
 resting_stays g _ (Begins _ u t ops claims may) laws = λ x recovers. every_after g.tasks u.member t (hardening_task u ops claims (g.logs u.member).next) (RestsAt x) (λ v i e. rests_of g x u t (open_task u ops claims) may.has refl recovers laws) (laws.resting x recovers)
 resting_stays g _ (Hardens _ u t ops claims first next may) laws = λ x recovers. every_after g.tasks u.member t (settling_task u claims (Some (g.logs u.member).next) 0) (RestsAt x) (λ v i e. rests_of g x u t (hardening_task u ops claims first) may.has refl recovers laws) (laws.resting x recovers)
 resting_stays g _ (BacksOut _ u t ops claims may) laws = λ x recovers. every_after g.tasks u.member t (settling_task u claims None 0) (RestsAt x) (λ v i e. rests_of g x u t (open_task u ops claims) may.has refl recovers laws) (laws.resting x recovers)

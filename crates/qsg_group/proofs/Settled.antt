@@ -36,7 +36,7 @@ use Rattle.qsg_group.specs.Observers.{entry_at, top_of, revise, has_run, is_comm
 use Rattle.std.specs.List.{AllByRecursion}
 use Rattle.qsg_group.specs.Laws.{Names, MarkNames, IsOfEpoch, PutsBy, GetsBy, RunsFrom, IsKept, IsDone, IsGood, Laws}
 use Rattle.qsg_group.specs.Changes.{open_task, hardening_task, settling, is_commit, settling_task, with_entry, with_entries, with_run, marked, removed, settled_entry, lost_shelf, MayPut, MayHarden, MayGiveUp, Change, hardened, published, given_up}
-use Rattle.qsg_group.specs.Changes.Change.{Puts, Gets, Hardens, Settles, Publishes, GivesUp, PeerSettles, Loses}
+use Rattle.qsg_group.specs.Changes.Change.{Puts, Gets, Ungets, Forgets, Hardens, Settles, Publishes, GivesUp, PeerSettles, Loses}
 use Rattle.qsg_group.proofs.Tables.{every_structure, moved, change-same}
 use Rattle.qsg_group.proofs.Entries.{num, KeepsId, entry-head, entry-tail, push_same, push_other, revise_same, revise_other}
 use Rattle.qsg_group.proofs.Keys.{has_run-push, has_run-later}
@@ -44,7 +44,8 @@ use Rattle.qsg_group.proofs.Pages.{has_unit, same_name}
 use Rattle.qsg_group.proofs.Units.{or_false}
 use Rattle.qsg_group.proofs.Failing.{unfailed}
 use Rattle.qsg_group.proofs.Losing.{held_lost}
-use Rattle.qsg_group.proofs.Shelves.{settler, settler_keeps, marker_keeps}
+use Rattle.qsg_group.proofs.Shelves.{settler, settler_keeps, marker_keeps, forgetter_keeps}
+use Rattle.qsg_group.proofs.Holding.{got_task}
 use Rattle.qsg_group.proofs.Marks.{none_yet}
 
 -- what an active structure holds, as the history has it
@@ -253,6 +254,12 @@ good_stays g _ (Gets _ u t ops claims s m outside may) laws = good_revise g s m.
     let is : record { message = m; mark = Visible; outside = outside } ≡ e = same_Some (record { message = m; mark = Visible; outside = outside }) e (sym may.there ∙ there) in
     let uncommitted : is_committed g.logs u ≡ false = (laws.in_hand u t (has_unit g u t (open_task u ops claims) may.has refl)).in_log ∙ ap (λ (x : Task). is_hardened x.stage) may.has in
     subst (λ (x : Held). option_and_then (counted g.logs) (marked (GotBy u) x) ≡ counted g.logs x) is (ap (λ b. cond b None (Some m)) uncommitted)) laws
+good_stays g _ (Ungets _ u t ops claims c may) laws = good_revise g c.connection.structure c.id.number (settler u false) (settler_keeps u false)
+    (λ active e there.
+    let uncommitted : is_committed g.logs u ≡ false = (laws.in_hand u t (has_unit g u t (got_task u ops claims c) may.has refl)).in_log ∙ ap (λ (x : Task). is_hardened x.stage) may.has in
+    ap (λ b. option_and_then (counted g.logs) (settled_entry u b e.mark e)) (sym uncommitted) ∙ settled_counts g.logs u e.mark e refl) laws
+good_stays g _ (Forgets _ s id may) laws = good_revise g s id (λ e. None) forgetter_keeps
+    (λ active e there. sym (ap (counted_by g.logs e.message) (ap (λ (x : Held). x.mark) (sym (same_Some may.entry e (sym may.there ∙ there))) ∙ may.mark))) laws
 good_stays g _ (Hardens _ u t ops claims first next may) laws = good_hardens g u t ops claims first next may laws
 good_stays g _ (Settles _ u t claims first n c may) laws = good_revise g c.connection.structure c.id.number (settler u (is_commit first)) (settler_keeps u (is_commit first))
     (λ active e there.

@@ -33,14 +33,14 @@ use Rattle.qsg_group.specs.declared.tasks.Claim.{Claim}
 use Rattle.qsg_group.specs.declared.tasks.Task.{Task}
 use Rattle.qsg_group.specs.Tables.{at_structure}
 use Rattle.qsg_group.specs.Group.{Held, Shelf, Group, idle}
-use Rattle.qsg_group.specs.Observers.{top_of, revise, is_committed}
+use Rattle.qsg_group.specs.Observers.{entry_at, top_of, revise, is_committed}
 use Rattle.qsg_group.specs.Laws.{is_pending, IsOfEpoch, IsShelf, AreShelves, AreEpochs, IsFresh, AreGiven, IsConnected, AreConnected, Laws}
-use Rattle.qsg_group.specs.Changes.{open_task, hardening_task, settling_task, with_entry, with_entries, marked, removed, settled_entry, settle, is_commit, lost_shelf, claim_of, MayPut, Change}
-use Rattle.qsg_group.specs.Changes.Change.{Draws, Puts, Gets, Begins, Hardens, BacksOut, Settles, Finishes, Crashes, Stops, PeerSettles, Loses}
+use Rattle.qsg_group.specs.Changes.{open_task, hardening_task, settling_task, with_entry, with_entries, marked, removed, settled_entry, settle, forget, is_commit, lost_shelf, claim_of, MayPut, Change}
+use Rattle.qsg_group.specs.Changes.Change.{Draws, Puts, Gets, Ungets, Forgets, Begins, Hardens, BacksOut, Settles, Finishes, Crashes, Stops, PeerSettles, Loses}
 use Rattle.qsg_group.proofs.Tables.{every_structure, change-same, same_structure}
-use Rattle.qsg_group.proofs.Entries.{num, KeepsId, rising_push, rising_revise, all_push, all_revise}
+use Rattle.qsg_group.proofs.Entries.{num, KeepsId, rising_push, rising_revise, all_push, all_revise, forget_before}
 use Rattle.qsg_group.proofs.Keys.{put_put, put_got}
-use Rattle.qsg_group.proofs.Holding.{Every, every_after}
+use Rattle.qsg_group.proofs.Holding.{Every, got_task, every_after}
 use Rattle.qsg_group.proofs.Failing.{every_crashed}
 use Rattle.qsg_group.proofs.Losing.{put_lost, count_lost, top_lost, connected_lost}
 use Rattle.qsg_group.proofs.Pages.{has_unit}
@@ -100,6 +100,15 @@ settler_keeps u commits e x is = ap (λ (m : Message). m.id.number) (left_of u c
 pub marker_keeps : (mark : Mark) → KeepsId (marked mark)
 marker_keeps mark e x is = ap num (sym (same_Some (record e { mark = mark }) x is))
 
+pub forgetter_keeps : KeepsId (λ e. None)
+forgetter_keeps e x is = absurd cc
+
+-- what is in a structure after an entry went was there before
+pub was_there : (g : Group) (s : StructNo) (n : ℕ) → Laws g → (x : StructNo) (id : ℕ) (e : Held) → entry_at id (at_structure s (with_entries (forget n)) g.shelves x).entries ≡ Some e → entry_at id (g.shelves x).entries ≡ Some e
+was_there g s n laws = every_structure (λ x shelf. (id : ℕ) (e : Held) → entry_at id shelf.entries ≡ Some e → entry_at id (g.shelves x).entries ≡ Some e) s (with_entries (forget n)) g.shelves
+    (λ id e there. forget_before (top_of (g.shelves s)) n id (g.shelves s).entries e (laws.shelves s).rising there)
+    (λ x differ id e there. there)
+
 -- ---- structures
 
 epoch_is : (epoch seq : ℕ) → seq < 2 ^ 40 → epoch_of (id_at epoch seq) ≡ epoch
@@ -152,10 +161,24 @@ shelf_settles g u s id commits laws =
       ]) (old.quiet idle);
     }
 
+shelf_forgets : (g : Group) (s : StructNo) (id : ℕ) → Laws g → IsShelf s (with_entries (forget id) (g.shelves s))
+shelf_forgets g s id laws =
+    let shelf = g.shelves s in
+    let old = laws.shelves s in
+    record {
+      last_fits = old.last_fits;
+      rising = rising_revise (top_of shelf) id (λ e. None) shelf.entries forgetter_keeps old.rising;
+      own = all_revise (λ x. x.message.structure ≡ s) id (λ e. None) shelf.entries (λ e x own is. absurd cc) old.own;
+      present = all_revise (IsOfEpoch shelf.epoch) id (λ e. None) shelf.entries (λ e x own is. absurd cc) old.present;
+      quiet = λ idle. all_revise (λ x. is_pending x.mark ≡ false) id (λ e. None) shelf.entries (λ e x own is. absurd cc) (old.quiet idle);
+    }
+
 pub shelves_stay : (g h : Group) → Change g h → Laws g → AreShelves h.shelves
 shelves_stay g _ (Puts _ u t ops claims s m outside may) laws = every_structure IsShelf s (with_entry (record { message = m; mark = PutBy u; outside = outside })) g.shelves (shelf_puts g u t ops claims s m outside may laws) (λ x differ. laws.shelves x)
 shelves_stay g _ (Gets _ u t ops claims s m outside may) laws = every_structure IsShelf s (with_entries (revise m.id.number (marked (GotBy u)))) g.shelves (shelf_gets g u s m.id.number may.active laws) (λ x differ. laws.shelves x)
 shelves_stay g _ (Settles _ u t claims first n c may) laws = every_structure IsShelf c.connection.structure (with_entries (settle c.id.number u (is_commit first))) g.shelves (shelf_settles g u c.connection.structure c.id.number (is_commit first) laws) (λ x differ. laws.shelves x)
+shelves_stay g _ (Ungets _ u t ops claims c may) laws = every_structure IsShelf c.connection.structure (with_entries (settle c.id.number u false)) g.shelves (shelf_settles g u c.connection.structure c.id.number false laws) (λ x differ. laws.shelves x)
+shelves_stay g _ (Forgets _ s id may) laws = every_structure IsShelf s (with_entries (forget id)) g.shelves (shelf_forgets g s id laws) (λ x differ. laws.shelves x)
 shelves_stay g _ (PeerSettles _ s id u may) laws = every_structure IsShelf s (with_entries (settle id u (is_committed g.logs u))) g.shelves (shelf_settles g u s id (is_committed g.logs u) laws) (λ x differ. laws.shelves x)
 shelves_stay g _ (Loses _ s may) laws = every_structure IsShelf s lost_shelf g.shelves (record { last_fits = omega arith; rising = tt; own = tt; present = tt; quiet = λ idle_now. tt }) (λ x differ. laws.shelves x)
 shelves_stay g _ (Recovers _ s m i may) laws = every_structure IsShelf s (in_recovery m i) g.shelves (record { last_fits = (laws.shelves s).last_fits; rising = tt; own = tt; present = tt; quiet = λ idle_now. tt }) (λ x differ. laws.shelves x)
@@ -178,6 +201,8 @@ pub epochs_stay : (g h : Group) → Change g h → Laws g → AreEpochs h.histor
 epochs_stay g _ (Puts _ u t ops claims s m outside may) laws = epochs_at g s (with_entry (record { message = m; mark = PutBy u; outside = outside })) (λ shelf. (refl, refl)) laws
 epochs_stay g _ (Gets _ u t ops claims s m outside may) laws = epochs_at g s (with_entries (revise m.id.number (marked (GotBy u)))) (λ shelf. (refl, refl)) laws
 epochs_stay g _ (Settles _ u t claims first n c may) laws = epochs_at g c.connection.structure (with_entries (settle c.id.number u (is_commit first))) (λ shelf. (refl, refl)) laws
+epochs_stay g _ (Ungets _ u t ops claims c may) laws = epochs_at g c.connection.structure (with_entries (settle c.id.number u false)) (λ shelf. (refl, refl)) laws
+epochs_stay g _ (Forgets _ s id may) laws = epochs_at g s (with_entries (forget id)) (λ shelf. (refl, refl)) laws
 epochs_stay g _ (PeerSettles _ s id u may) laws = epochs_at g s (with_entries (settle id u (is_committed g.logs u))) (λ shelf. (refl, refl)) laws
 epochs_stay g _ (Hardens _ u t ops claims first next may) laws = λ s active. laws.epochs s active ∙ sym (fold_push (λ a i. a + ends_of (structure_number s) i) 0 g.history (UnitOf u ops) ∙ zero_more (count_of (structure_number s) g.history))
   where
@@ -212,6 +237,8 @@ pub fresh_stays : (g h : Group) → Change g h → Laws g → IsFresh h.history 
 fresh_stays g _ (Puts _ u t ops claims s m outside may) laws = λ x id lt. let le = top_after_put g s (record { message = m; mark = PutBy u; outside = outside }) x in laws.fresh x id (omega (arith, le, lt))
 fresh_stays g _ (Gets _ u t ops claims s m outside may) laws = fresh_other g s (revise m.id.number (marked (GotBy u))) laws
 fresh_stays g _ (Settles _ u t claims first n c may) laws = fresh_other g c.connection.structure (settle c.id.number u (is_commit first)) laws
+fresh_stays g _ (Ungets _ u t ops claims c may) laws = fresh_other g c.connection.structure (settle c.id.number u false) laws
+fresh_stays g _ (Forgets _ s id may) laws = fresh_other g s (forget id) laws
 fresh_stays g _ (PeerSettles _ s id u may) laws = fresh_other g s (settle id u (is_committed g.logs u)) laws
 fresh_stays g _ (Hardens _ u t ops claims first next may) laws = λ s id lt. elim (cases_Bool (is_put (structure_number s, id) ops)) [
   | inl put ↦
@@ -265,6 +292,13 @@ given_stays g _ (Gets _ u t ops claims s m outside may) laws =
     every_after g.tasks u.member t _ (λ v task. IsGiven (at_structure s (with_entries f) g.shelves) task)
     (λ v i is. given_other g s f (open_task u (ops ++ (s, Got m.id) ∷ []) (claims ++ claim_of s (g.shelves s) m ∷ [])) (λ x id put. given_of g u t (open_task u ops claims) may.has refl laws x id (sym (put_got (structure_number x, id) ops s m.id) ∙ put)))
     (λ v w has. given_other g s f (g.tasks v.member w) (laws.given v w has))
+given_stays g _ (Ungets _ u t ops claims c may) laws =
+    let f = settle c.id.number u false in
+    let s = c.connection.structure in
+    every_after g.tasks u.member t _ (λ v task. IsGiven (at_structure s (with_entries f) g.shelves) task)
+    (λ v i is. given_other g s f (open_task u ops claims) (λ x id put. given_of g u t (got_task u ops claims c) may.has refl laws x id (put_got (structure_number x, id) ops s c.id ∙ put)))
+    (λ v w has. given_other g s f (g.tasks v.member w) (laws.given v w has))
+given_stays g _ (Forgets _ s id may) laws = λ v w has. given_other g s (forget id) (g.tasks v.member w) (laws.given v w has)
 given_stays g _ (Begins _ u t ops claims may) laws = every_after g.tasks u.member t _ (λ v task. IsGiven g.shelves task) (λ v i is. given_of g u t (open_task u ops claims) may.has refl laws) laws.given
 given_stays g _ (Hardens _ u t ops claims first next may) laws = every_after g.tasks u.member t _ (λ v task. IsGiven g.shelves task) (λ v e is. none_given g.shelves) laws.given
 given_stays g _ (BacksOut _ u t ops claims may) laws = every_after g.tasks u.member t _ (λ v task. IsGiven g.shelves task) (λ v e is. none_given g.shelves) laws.given
@@ -302,6 +336,10 @@ pub claims_push : (P : Claim → Type 0) (claims : List Claim) (c : Claim) → A
 claims_push P [] c all one = (one, tt)
 claims_push P (d ∷ claims) c all one = (all.0, claims_push P claims c all.1 one)
 
+pub claims_front : (P : Claim → Type 0) (claims : List Claim) (c : Claim) → AllByRecursion P (claims ++ c ∷ []) → AllByRecursion P claims
+claims_front P [] c all = tt
+claims_front P (d ∷ claims) c all = (all.0, claims_front P claims c all.1)
+
 connected_of : (g : Group) (u : UnitName) (t : TaskNo) (task : Task) → g.tasks u.member t ≡ task → task.unit ≡ Some u → Laws g → AllByRecursion (IsConnected g.shelves) task.claims
 connected_of g u t task has unit laws = subst (λ (x : Task). AllByRecursion (IsConnected g.shelves) x.claims) has (laws.connected u t (has_unit g u t task has unit))
 
@@ -317,6 +355,10 @@ connected_stays g _ (Puts _ u t ops claims s m outside may) laws = connected_at 
     (claims_push (IsConnected g.shelves) claims (claim_of s (g.shelves s) m) (connected_of g u t (open_task u ops claims) may.has refl laws) (λ active. refl)) laws
 connected_stays g _ (Gets _ u t ops claims s m outside may) laws = connected_at g u t _ s (with_entries (revise m.id.number (marked (GotBy u)))) (λ shelf. (refl, refl))
     (claims_push (IsConnected g.shelves) claims (claim_of s (g.shelves s) m) (connected_of g u t (open_task u ops claims) may.has refl laws) (λ active. refl)) laws
+connected_stays g _ (Ungets _ u t ops claims c may) laws = connected_at g u t _ c.connection.structure (with_entries (settle c.id.number u false)) (λ shelf. (refl, refl))
+    (claims_front (IsConnected g.shelves) claims c (connected_of g u t (got_task u ops claims c) may.has refl laws)) laws
+connected_stays g _ (Forgets _ s id may) laws = λ v w has.
+    still_connected g.shelves (at_structure s (with_entries (forget id)) g.shelves) (same_use g s (with_entries (forget id)) (λ shelf. (refl, refl))) (g.tasks v.member w).claims (laws.connected v w has)
 connected_stays g _ (Begins _ u t ops claims may) laws = every_after g.tasks u.member t _ (λ v task. AllByRecursion (IsConnected g.shelves) task.claims) (λ v e is. connected_of g u t (open_task u ops claims) may.has refl laws) laws.connected
 connected_stays g _ (Hardens _ u t ops claims first next may) laws = every_after g.tasks u.member t _ (λ v task. AllByRecursion (IsConnected g.shelves) task.claims) (λ v e is. connected_of g u t (hardening_task u ops claims first) may.has refl laws) laws.connected
 connected_stays g _ (BacksOut _ u t ops claims may) laws = every_after g.tasks u.member t _ (λ v task. AllByRecursion (IsConnected g.shelves) task.claims) (λ v e is. connected_of g u t (open_task u ops claims) may.has refl laws) laws.connected

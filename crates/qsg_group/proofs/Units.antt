@@ -24,12 +24,12 @@ use Rattle.qsg_group.specs.Group.{Run, Log, Seat, Group, idle}
 use Rattle.qsg_group.specs.Observers.{has_run, is_hardened, is_live, logged_ops}
 use Rattle.qsg_group.specs.Laws.{Has, IsInHand, AreInHand, AreHeldOnce, IsDrawn, AreDrawn, HasEnded, HaveEnded, Laws}
 use Rattle.qsg_group.specs.Changes.{open_task, hardening_task, settling, settling_task, with_run, ended_seat, next_seat, MayDraw, MayHarden, Change, drawn, hardened}
-use Rattle.qsg_group.specs.Changes.Change.{Draws, Puts, Gets, Begins, Hardens, BacksOut, Settles, Finishes, Publishes, GivesUp, Crashes, Stops, Starts, PeerSettles, Resolves, Loses}
+use Rattle.qsg_group.specs.Changes.Change.{Draws, Puts, Gets, Ungets, Forgets, Begins, Hardens, BacksOut, Settles, Finishes, Publishes, GivesUp, Crashes, Stops, Starts, PeerSettles, Resolves, Loses}
 use Rattle.qsg_group.proofs.Tables.{every_member, moved, cases_member}
 use Rattle.qsg_group.proofs.Losing.{unit_lost}
 use Rattle.qsg_group.proofs.Failing.{has_crashed, none_down, in_hand_elsewhere, drawn_next, ended_next, ended_crashed, failed_before}
 use Rattle.qsg_group.proofs.Keys.{has_run-push, has_run-later}
-use Rattle.qsg_group.proofs.Holding.{with_task, cases_has, every_after, has_back}
+use Rattle.qsg_group.proofs.Holding.{with_task, got_task, cases_has, every_after, has_back}
 use Rattle.qsg_group.proofs.Pages.{same_name, has_unit, undrawn, undrawn_run}
 
 -- ---- once
@@ -65,6 +65,7 @@ pub once_stays : (g h : Group) → Change g h → Laws g → AreHeldOnce h.tasks
 once_stays g _ (Draws _ u t may) laws = once_new g u.member t _ (λ v k e m has. unheld_name g u t k may laws (subst (λ (x : UnitName). Has g.tasks x k) (sym (same_Some u v e)) has)) laws
 once_stays g _ (Puts _ u t ops claims s m outside may) laws = once_same g u.member t _ (sym (unit_is g u t _ may.has)) laws
 once_stays g _ (Gets _ u t ops claims s m outside may) laws = once_same g u.member t _ (sym (unit_is g u t _ may.has)) laws
+once_stays g _ (Ungets _ u t ops claims c may) laws = once_same g u.member t _ (sym (unit_is g u t _ may.has)) laws
 once_stays g _ (Begins _ u t ops claims may) laws = once_same g u.member t _ (sym (unit_is g u t _ may.has)) laws
 once_stays g _ (Hardens _ u t ops claims first next may) laws = once_same g u.member t _ (sym (unit_is g u t _ may.has)) laws
 once_stays g _ (BacksOut _ u t ops claims may) laws = once_same g u.member t _ (sym (unit_is g u t _ may.has)) laws
@@ -159,6 +160,8 @@ pub in_hand_stays : (g h : Group) → Change g h → Laws g → AreInHand h.hist
 in_hand_stays g _ (Draws _ u t may) laws = in_hand_draws g u t may laws
 in_hand_stays g _ (Puts _ u t ops claims s m outside may) laws = in_hand_same g u t (open_task u ops claims) _ may.has refl refl refl laws
 in_hand_stays g _ (Gets _ u t ops claims s m outside may) laws = in_hand_same g u t (open_task u ops claims) _ may.has refl refl refl laws
+in_hand_stays g _ (Ungets _ u t ops claims c may) laws = in_hand_same g u t (got_task u ops claims c) _ may.has refl refl refl laws
+in_hand_stays g _ (Forgets _ s id may) laws = laws.in_hand
 in_hand_stays g _ (Begins _ u t ops claims may) laws = in_hand_same g u t (open_task u ops claims) _ may.has refl refl refl laws
 in_hand_stays g _ (Hardens _ u t ops claims first next may) laws = in_hand_hardens g u t ops claims first next may laws
 in_hand_stays g _ (BacksOut _ u t ops claims may) laws = in_hand_same g u t (open_task u ops claims) _ may.has refl refl refl laws

@@ -115,6 +115,21 @@ settled_entry u commits Cleanup e = Some e
 abbrev pub settle : ℕ → UnitName → Bool → List Held → List Held
 settle id u commits es = revise id (λ e. settled_entry u commits e.mark e) es
 
+-- a unit's last operation, a get, is undone: its mark comes off, and the entry may be had again
+abbrev pub ungot : Group → UnitName → TaskNo → List (StructNo × Op) → List Claim → Claim → Group
+ungot g u t ops claims c = record g {
+  shelves = at_structure c.connection.structure (with_entries (settle c.id.number u false)) g.shelves;
+  tasks = at_task u.member t (λ task. open_task u ops claims) g.tasks;
+}
+
+-- the entry of an id goes
+abbrev pub forget : ℕ → List Held → List Held
+forget id es = revise id (λ e. None) es
+
+-- an entry that was removed goes, once its owner needs it no more
+abbrev pub forgotten : Group → StructNo → ℕ → Group
+forgotten g s id = record g { shelves = at_structure s (with_entries (forget id)) g.shelves }
+
 -- a unit's next mark comes off
 abbrev pub settled : Group → UnitName → TaskNo → List Claim → Option ℕ → ℕ → Claim → Group
 settled g u t claims first n c = record g {
@@ -230,6 +245,15 @@ pub record MayGet (g : Group) (u : UnitName) (t : TaskNo) (ops : List (StructNo 
   pub active : is_active (g.shelves s).state ≡ true
   pub there : entry_at m.id.number (g.shelves s).entries ≡ Some (record { message = m; mark = Visible; outside = outside })
 
+pub record MayUnget (g : Group) (u : UnitName) (t : TaskNo) (ops : List (StructNo × Op)) (claims : List Claim) (c : Claim) : Type 0 where
+  pub has : g.tasks u.member t ≡ open_task u (ops ++ (c.connection.structure, Got c.id) ∷ []) (claims ++ c ∷ [])
+
+-- the entry was removed, but for its body outside
+pub record MayForget (g : Group) (s : StructNo) (id : ℕ) : Type 0 where
+  pub entry : Held
+  pub there : entry_at id (g.shelves s).entries ≡ Some entry
+  pub mark : entry.mark ≡ Cleanup
+
 pub record MayBegin (g : Group) (u : UnitName) (t : TaskNo) (ops : List (StructNo × Op)) (claims : List Claim) : Type 0 where
   pub has : g.tasks u.member t ≡ open_task u ops claims
   pub latch : (w : TaskNo) → is_hardening (g.tasks u.member w).stage ≡ false
@@ -303,6 +327,8 @@ pub data Change : Group → Group → Type 0 where
   Draws : (g : Group) (u : UnitName) (t : TaskNo) → MayDraw g u t → Change g (drawn g u t)
   Puts : (g : Group) (u : UnitName) (t : TaskNo) (ops : List (StructNo × Op)) (claims : List Claim) (s : StructNo) (m : Message) (outside : Bool) → MayPut g u t ops claims s m → Change g (put g u t ops claims s m outside)
   Gets : (g : Group) (u : UnitName) (t : TaskNo) (ops : List (StructNo × Op)) (claims : List Claim) (s : StructNo) (m : Message) (outside : Bool) → MayGet g u t ops claims s m outside → Change g (got g u t ops claims s m)
+  Ungets : (g : Group) (u : UnitName) (t : TaskNo) (ops : List (StructNo × Op)) (claims : List Claim) (c : Claim) → MayUnget g u t ops claims c → Change g (ungot g u t ops claims c)
+  Forgets : (g : Group) (s : StructNo) (id : ℕ) → MayForget g s id → Change g (forgotten g s id)
   Begins : (g : Group) (u : UnitName) (t : TaskNo) (ops : List (StructNo × Op)) (claims : List Claim) → MayBegin g u t ops claims → Change g (begun g u t ops claims)
   Hardens : (g : Group) (u : UnitName) (t : TaskNo) (ops : List (StructNo × Op)) (claims : List Claim) (first next : ℕ) → MayHarden g u t ops claims first next → Change g (hardened g u t ops claims next)
   BacksOut : (g : Group) (u : UnitName) (t : TaskNo) (ops : List (StructNo × Op)) (claims : List Claim) → MayBackOut g u t ops claims → Change g (backed_out g u t claims)

@@ -1,6 +1,6 @@
 //! Every change keeps the laws, and what follows from them.
 
-ghost use Rattle.std.specs.Prelude.{◌≡◌, ◌⊎◌, ℕ, Option, Some, None, true, false, filter};
+ghost use Rattle.std.specs.Prelude.{◌≡◌, ◌⊎◌, ℕ, Bool, Option, Some, None, true, false, filter};
 ghost use Rattle.qsg_num.specs.declared.seats.Member.{Member};
 ghost use Rattle.qsg_num.specs.declared.seats.TaskNo.{TaskNo};
 ghost use Rattle.qsg_num.specs.declared.ids.UnitName.{UnitName};
@@ -11,7 +11,7 @@ ghost use Rattle.qsg_lists.specs.Structures.{is_active};
 ghost use Rattle.qsg_group.specs.Group.{Held, Group, empty_group};
 ghost use Rattle.qsg_group.specs.Observers.{entry_at, has_run, is_committed, runs_from, counted_messages};
 ghost use Rattle.qsg_group.specs.Laws.{is_pending, Laws};
-ghost use Rattle.qsg_group.specs.Changes.{Change, Reached};
+ghost use Rattle.qsg_group.specs.Changes.{settle, Change, Reached};
 ghost use Rattle.qsg_group.specs.Outcomes.{Outlives, IsUndone};
 ghost use Rattle.qsg_msg.specs.declared.message.Message.{Message};
 
@@ -42,6 +42,12 @@ pub fn an_active_structure_holds_what_the_history_holds()
 pub fn a_log_tells_of_marks_from_its_low_page()
     ensures { (g : Group) (s : StructNo) (id : ℕ) (e : Held) (u : UnitName) → Laws g → entry_at id (g.shelves s).entries ≡ Some e →
         (e.mark ≡ PutBy u) ⊎ (e.mark ≡ GotBy u) → has_run u (runs_from (g.logs u.member).low (g.logs u.member).runs) ≡ is_committed g.logs u }
+{}
+
+/// No entry of a structure that isn't active is pending, so that a settle leaves its entries as they are.
+pub fn a_settle_leaves_an_inactive_structure()
+    ensures { (g : Group) (s : StructNo) (id : ℕ) (u : UnitName) (commits : Bool) → Laws g → is_active (g.shelves s).state ≡ false →
+        settle id u commits (g.shelves s).entries ≡ (g.shelves s).entries }
 {}
 
 /// Once no task holds a unit and each incarnation that failed is resolved, no entry is pending.
