@@ -2,7 +2,7 @@
 
 ghost use Rattle.std.specs.Prelude.{◌≡◌, ◌≢◌, ℕ, ◌+◌, ◌*◌, ◌^◌, ◌<◌, ◌≤◌, ◌==◌, not, Bool, true, List, [], ◌∷◌, length, slice_index, OnOk, IfOk, IfSome, IfNone, IsErrOf, Option};
 ghost use Rattle.qsg_num.specs.Faults.{HasCause, Rose};
-ghost use Rattle.qsg_disk.specs.Byte.{values};
+ghost use Rattle.qsg_disk.specs.Byte.{values, EachPair, IsCut};
 ghost use Rattle.qsg_dataset.specs.Headers.{spelling};
 ghost use Rattle.qsg_dataset.specs.Contents.{HasBlocks, IsSized, IsSame, extent_of, offset_of, block_bytes, header_of, gate_value, IsSaved};
 ghost use Rattle.qsg_dataset.specs.Steps.{Writes, Syncs, SaveStep, ShutStep};
@@ -113,6 +113,20 @@ impl<D: Disk> DataSet<D> {
         ensures whole { self.now.tells ≡ true → length self.now.bytes ≡ extent_of self.now }
     {
         let _size = self.device.size();
+    }
+
+    /// How many blocks there are.
+    pub fn blocks(&self) -> u32
+        ensures { result ≡ self.now.blocks }
+    {
+        self.blocks
+    }
+
+    /// Bytes of a block.
+    pub fn block_size(&self) -> u32
+        ensures { result ≡ self.now.block_size }
+    {
+        self.block_size
     }
 
     /// Where a block begins.
@@ -245,5 +259,15 @@ impl<D: Disk> DataSet<D> {
     {
         let _size = self.device.size();
         self.device.read(0, header)
+    }
+
+    /// The power of its device goes and comes back. `pick` chooses among the values of bytes that have no safe one.
+    pub fn cut(&mut self, pick: u64)
+        ensures same { IsSame self.old self.new }
+        ensures faults { self.old.faults ≤ self.new.faults }
+        ensures cut { self.old.tells ≡ true → EachPair IsCut self.old.bytes self.new.bytes }
+    {
+        let _size = self.device.size();
+        self.device.power_cut(pick, 0);
     }
 }

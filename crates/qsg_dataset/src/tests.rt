@@ -142,3 +142,23 @@ fn writes_and_shuts(rt: HostRuntime) -> Result<(), Fail> {
     assert_eq!(rt; loaded(alloc, &mut set, EPOCH), Some((None, false)));
     Ok(())
 }
+
+/// A cut leaves the blocks as they were made safe, and the size of the data set.
+#[test]
+fn survives_a_cut(rt: HostRuntime) -> Result<(), Fail> {
+    let alloc = rt.alloc();
+    let Some(mut set) = ten(alloc) else {
+        assert!(rt; false);
+        return Ok(());
+    };
+    let first = Block { number: 0 };
+    assert!(rt; set.write_block(first, b"body").is_ok());
+    assert!(rt; set.sync().is_ok());
+    set.cut(7);
+    let mut read = [0; 4];
+    assert!(rt; set.read_block(first, &mut read).is_ok());
+    assert_eq!(rt; read, *b"body");
+    assert_eq!(rt; set.blocks(), 10);
+    assert_eq!(rt; set.block_size(), 512);
+    Ok(())
+}

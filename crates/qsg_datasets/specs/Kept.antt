@@ -1,5 +1,5 @@
 -- what members keep of their data sets, by the numbers of members, structures and tasks
-use Rattle.std.specs.Prelude.{ℕ, ◌≡◌, ◌-◌, ◌==◌, Bool, true, false, if◌then◌else◌, List, [], replicate, length, map, take, Option, Some, None, IfSome, slice_index_or, slice_set}
+use Rattle.std.specs.Prelude.{ℕ, ◌≡◌, ◌≤◌, ◌-◌, ◌==◌, Bool, true, false, if◌then◌else◌, List, [], replicate, length, map, take, Option, Some, None, IfSome, slice_index_or, slice_set}
 use Rattle.qsg_num.specs.declared.seats.Member.{Member}
 use Rattle.qsg_num.specs.declared.seats.StructNo.{StructNo}
 use Rattle.qsg_num.specs.declared.seats.TaskNo.{TaskNo}
@@ -35,11 +35,21 @@ no_hands = replicate 5 no_hand
 abbrev pub sets_of : Member → List (List KeptSet) → List KeptSet
 sets_of m sets = slice_index_or sets (member_number m - 1) []
 
+abbrev pub with_sets_of : Member → List KeptSet → List (List KeptSet) → List (List KeptSet)
+with_sets_of m row sets = slice_set sets (member_number m - 1) row
+
+-- of those of a member, the one for a structure
+abbrev pub set_for : StructNo → List KeptSet → KeptSet
+set_for s row = slice_index_or row (structure_number s - 1) no_set
+
+abbrev pub with_set_for : StructNo → KeptSet → List KeptSet → List KeptSet
+with_set_for s set row = slice_set row (structure_number s - 1) set
+
 abbrev pub set_in : Member → StructNo → List (List KeptSet) → KeptSet
-set_in m s sets = slice_index_or (sets_of m sets) (structure_number s - 1) no_set
+set_in m s sets = set_for s (sets_of m sets)
 
 abbrev pub with_set : Member → StructNo → KeptSet → List (List KeptSet) → List (List KeptSet)
-with_set m s set sets = slice_set sets (member_number m - 1) (slice_set (sets_of m sets) (structure_number s - 1) set)
+with_set m s set sets = with_sets_of m (with_set_for s set (sets_of m sets)) sets
 
 -- the group has the data set of this member for this structure
 pub record HasSet (m : Member) (s : StructNo) (sets : List (List KeptSet)) : Type 0 where
@@ -86,6 +96,10 @@ with_hand t hand set = record set { hands = slice_set set.hands (task_number t) 
 abbrev pub given : ℕ → ℕ → KeptSet → List Block
 given epoch n set = take n (free_blocks (used_in epoch set))
 
+-- the map after so many blocks are taken for an epoch
+abbrev pub taken_in : ℕ → ℕ → List Bool → Option KeptMap
+taken_in epoch n used = Some (record { epoch = epoch; used = marked true (take n (free_blocks used)) used })
+
 -- a task has taken so many blocks for an epoch, from the map that stands for it or else from a new one
 abbrev pub taken : TaskNo → ℕ → ℕ → KeptSet → KeptSet
 taken t epoch n set = with_hand t (record { epoch = epoch; blocks = given epoch n set }) (with_map epoch (marked true (given epoch n set) (used_in epoch set)) set)
@@ -119,9 +133,6 @@ pub record IsKept (set : KeptSet) : Type 0 where
   pub map : IfSome set.map (λ m. length m.used ≡ set.contents.blocks)
 
 -- ---- of a member, all
-
-abbrev pub with_sets_of : Member → List KeptSet → List (List KeptSet) → List (List KeptSet)
-with_sets_of m row sets = slice_set sets (member_number m - 1) row
 
 abbrev pub emptied_all : Member → List (List KeptSet) → List (List KeptSet)
 emptied_all m sets = with_sets_of m (map emptied (sets_of m sets)) sets

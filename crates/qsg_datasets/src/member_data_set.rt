@@ -1,22 +1,22 @@
 //! The data set of one member for one structure.
 
-ghost use Rattle.std.specs.Prelude.{◌≡◌, ◌≤◌, ◌<◌, ℕ, List, [], length, map, replicate, true, None, Some, IfOk, OnOk, OnErr, IfErr, IfSome, IsErrOf, IsSome};
+ghost use Rattle.std.specs.Prelude.{◌≡◌, ◌≤◌, ◌<◌, ◌-◌, ℕ, List, [], length, map, take, replicate, true, false, None, Some, IfOk, OnOk, OnErr, IfErr, IfSome, IsErrOf, IsSome};
 ghost use Rattle.std.specs.List.{AllByRecursion};
 ghost use Rattle.qsg_num.specs.Faults.{HasCause, Rose};
 ghost use Rattle.qsg_num.specs.declared.ids.Block.{Block};
 ghost use Rattle.qsg_disk.specs.Byte.{values};
-ghost use Rattle.qsg_space.specs.Spaces.{free_count};
+ghost use Rattle.qsg_space.specs.Spaces.{free_blocks, free_count, marked};
 ghost use Rattle.qsg_space.specs.Refusals.{IsWhyNone};
 ghost use Rattle.qsg_dataset.specs.Contents.{Contents, HasBlocks, block_bytes, header_of, offset_of};
 ghost use Rattle.qsg_dataset.specs.Steps.{Writes, Syncs, SaveStep, ShutStep};
 ghost use Rattle.qsg_dataset.specs.declared.data_set.LoadError.TheVariants as error;
-ghost use Rattle.qsg_datasets.specs.Kept.{KeptSet, IsKept, no_hand, no_hands, stands, used_in, hand_of, with_hand, taken, given_back, freed, claimed, emptied};
+ghost use Rattle.qsg_datasets.specs.Kept.{KeptSet, IsKept, no_hand, no_hands, stands, used_by, used_in, hand_of, with_hand, taken_in, taken, given_back, freed_in, freed, claimed, emptied};
 ghost use Rattle.qsg_datasets.specs.Calls.{IsStorageSame, IsCut, IsLoaded};
 
-use qsg_dataset::{DataSet, LoadError};
+use qsg_dataset::{DataSet, LoadError, Loaded};
 use qsg_disk::{Disk, Failed};
 use qsg_num::{Block, Blocks, TaskNo};
-use qsg_space::{Map, TakeError};
+use qsg_space::{Map, NoRoom, TakeError};
 use std::alloc::{AllocError, Global};
 use std::marker::Model;
 use std::mem;
@@ -78,10 +78,85 @@ fn no_hand(alloc: Global) -> Hand
     }
 }
 
+/// No task has taken blocks any more.
+fn empty_all(alloc: Global, hands: &mut [Hand])
+    ensures { hands.new ≡ replicate (length hands.old) no_hand }
+{
+    for hand in hands {
+        *hand = no_hand(alloc);
+    }
+}
+
+/// Takes blocks from the map that stands for an epoch, or from a new one, which stands in its place then.
+fn take_from(
+    alloc: Global,
+    map: &mut Option<KeptMap>,
+    blocks: u32,
+    epoch: u32,
+    n: u32,
+) -> Result<Blocks, TakeError>
+    ensures given { IfOk result (λ given. given ≡ take n (free_blocks (used_by epoch blocks map.old))) }
+    ensures marked { OnOk result (map.new ≡ taken_in epoch n (used_by epoch blocks map.old)) }
+    ensures room { OnOk result (n ≤ free_count (used_by epoch blocks map.old)) }
+    ensures refused { IfErr result (λ why. IsWhyNone why n (free_count (used_by epoch blocks map.old))) }
+    ensures unchanged { OnErr result (map.new ≡ map.old) }
+{
+    match map {
+        Some(kept) if kept.epoch == epoch => kept.used.take(alloc, n),
+        _ => {
+            let (used, given) = take_anew(alloc, blocks, n)?;
+            *map = Some(KeptMap { epoch, used });
+            Ok(given)
+        }
+    }
+}
+
+/// A map of which blocks are taken, all others being free.
+fn take_anew(alloc: Global, blocks: u32, n: u32) -> Result<(Map, Blocks), TakeError>
+    ensures given { IfOk result (λ made. made.1 ≡ take n (free_blocks (replicate blocks false))) }
+    ensures marked { IfOk result (λ made. made.0 ≡ marked true (take n (free_blocks (replicate blocks false))) (replicate blocks false)) }
+    ensures room { OnOk result (n ≤ free_count (replicate blocks false)) }
+    ensures refused { IfErr result (λ why. IsWhyNone why n (free_count (replicate blocks false))) }
+{
+    if blocks < n {
+        return Err(TakeError::NoRoom(NoRoom {
+            need: n,
+            free: blocks,
+        }));
+    }
+    let mut used = Map::new(alloc, blocks).map_err(|_| TakeError::NoMemory)?;
+    let given = used.take(alloc, n)?;
+    Ok((used, given))
+}
+
+/// Makes blocks free in the map, where it stands for that epoch.
+fn free_in(map: &mut Option<KeptMap>, epoch: u32, blocks: &Blocks)
+    ensures { map.new ≡ freed_in epoch blocks.now map.old }
+{
+    if let Some(kept) = map {
+        if kept.epoch == epoch {
+            kept.used.put_back(blocks);
+        }
+    }
+}
+
+/// Makes blocks used.
+fn claim_all(used: &mut Map, blocks: &[Block])
+    requires within { AllByRecursion (λ (b : Block). b.number < length used.old) blocks.now }
+    ensures claimed { used.new ≡ marked true blocks.now used.old }
+    ensures size { length used.new ≡ length used.old }
+{
+    for block in blocks {
+        used.claim(*block);
+    }
+}
+
 impl<D: Disk> MemberDataSet<D> {
     /// A data set of which its member keeps no map, and of which no task has taken blocks.
-    pub fn new(alloc: Global, data: DataSet<D>) -> Result<Self, AllocError>
-        ensures { IfOk result (λ s. s ≡ record { contents = data; map = None; hands = no_hands }) }
+    pub fn new(alloc: Global, data_set: DataSet<D>) -> Result<Self, AllocError>
+    where
+        D: Drop,
+        ensures { IfOk result (λ s. s ≡ record { contents = data_set; map = None; hands = no_hands }) }
     {
         let mut hands = Vec::with_capacity(alloc, ALL_TASKS)?;
         hands.push(no_hand(alloc))?;
@@ -90,7 +165,7 @@ impl<D: Disk> MemberDataSet<D> {
         hands.push(no_hand(alloc))?;
         hands.push(no_hand(alloc))?;
         Ok(MemberDataSet {
-            data,
+            data: data_set,
             map: None,
             hands,
         })
@@ -138,7 +213,10 @@ impl<D: Disk> MemberDataSet<D> {
     pub fn used(&self, epoch: u32) -> u32
         ensures { result ≡ self.now.contents.blocks - free_count (used_in epoch self.now) }
     {
-        todo
+        match &self.map {
+            Some(map) if map.epoch == epoch => map.used.len() - map.used.free_count(),
+            _ => 0,
+        }
     }
 
     /// The blocks that a task has taken.
@@ -157,21 +235,24 @@ impl<D: Disk> MemberDataSet<D> {
         ensures refused { IfErr result (λ why. IsWhyNone why n (free_count (used_in epoch self.old))) }
         ensures unchanged { OnErr result (self.new ≡ self.old) }
     {
-        todo
+        let blocks = take_from(alloc, &mut self.map, self.data.blocks(), epoch, n)?;
+        self.hands[usize::from(task.get())] = Hand { epoch, blocks };
+        Ok(())
     }
 
     /// The blocks that a task has taken are free again, in the map of their epoch. Takes no memory.
     pub fn give_back(&mut self, alloc: Global, task: TaskNo)
         ensures { self.new ≡ given_back task self.old }
     {
-        todo
+        let hand = self.exchange(task, no_hand(alloc));
+        self.free(hand.epoch, &hand.blocks);
     }
 
     /// Puts blocks in a task's hand in place of those that it had, which it gives: to an entry that is to list them, or
     /// back from one that wasn't written. Takes no memory.
     pub fn exchange(&mut self, task: TaskNo, hand: Hand) -> Hand
         ensures given { result ≡ hand_of task self.old }
-        ensures { self.new ≡ with_hand task hand self.old }
+        ensures put { self.new ≡ with_hand task hand self.old }
     {
         mem::replace(&mut self.hands[usize::from(task.get())], hand)
     }
@@ -180,7 +261,7 @@ impl<D: Disk> MemberDataSet<D> {
     pub fn free(&mut self, epoch: u32, blocks: &Blocks)
         ensures { self.new ≡ freed epoch blocks.now self.old }
     {
-        todo
+        free_in(&mut self.map, epoch, blocks);
     }
 
     /// Makes blocks used in the map, if there is one. Takes no memory.
@@ -188,14 +269,17 @@ impl<D: Disk> MemberDataSet<D> {
         requires within { AllByRecursion (λ (b : Block). b.number < self.old.contents.blocks) blocks.now }
         ensures { self.new ≡ claimed blocks.now self.old }
     {
-        todo
+        if let Some(map) = &mut self.map {
+            claim_all(&mut map.used, blocks.as_slice());
+        }
     }
 
     /// Drops the map and what tasks have taken. Takes no memory.
     pub fn clear(&mut self, alloc: Global)
         ensures { self.new ≡ emptied self.old }
     {
-        todo
+        self.map = None;
+        empty_all(alloc, &mut self.hands);
     }
 
     /// Writes the first bytes of a block, at most all of it.
@@ -242,7 +326,10 @@ impl<D: Disk> MemberDataSet<D> {
         ensures cause { HasCause self.old.contents.faults self.new.contents.faults result }
         ensures step { IfSome self.old.map (λ m. self.old.contents.tells ≡ true → SaveStep at m.epoch m.used result self.old.contents.bytes self.new.contents.bytes) }
     {
-        todo
+        match &self.map {
+            Some(map) => self.data.save_step(&map.used, map.epoch, at),
+            None => unreachable!(),
+        }
     }
 
     /// Does one of the two calls that shut the gate: 1 writes it, 2 syncs.
@@ -264,7 +351,12 @@ impl<D: Disk> MemberDataSet<D> {
         ensures same { OnErr result (IsStorageSame self.old self.new) }
         ensures bytes { OnErr result (self.old.contents.tells ≡ true → self.new.contents.bytes ≡ self.old.contents.bytes) }
     {
-        todo
+        let free = Map::new(alloc, self.data.blocks())?;
+        let Loaded { map, gate_open } = self.data.load_map(alloc, epoch)?;
+        let has_map = map.is_some();
+        let used = map.unwrap_or(free);
+        self.map = Some(KeptMap { epoch, used });
+        Ok(Found { has_map, gate_open })
     }
 
     /// The power of the device goes and comes back, and the member's storage is gone. `pick` chooses among the values of
@@ -272,6 +364,7 @@ impl<D: Disk> MemberDataSet<D> {
     pub fn cut(&mut self, alloc: Global, pick: u64)
         ensures { IsCut self.old self.new }
     {
-        todo
+        self.data.cut(pick);
+        self.clear(alloc);
     }
 }
