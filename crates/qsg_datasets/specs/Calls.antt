@@ -1,8 +1,7 @@
 -- what the calls on the device of a data set do to what its member keeps
-use Rattle.std.specs.Prelude.{ℕ, ◌≡◌, ◌≤◌, ◌==◌, Bool, true, not, List, [], ◌∷◌, Option, Some, None, if◌then◌else◌, replicate, false}
+use Rattle.std.specs.Prelude.{ℕ, ◌≡◌, ◌≤◌, ◌==◌, Bool, true, not, List, [], ◌∷◌, Some, None, replicate, false}
 use Rattle.qsg_disk.specs.Byte.{EachPair, IsCut as IsCutByte}
-use Rattle.qsg_dataset.specs.Contents.{Contents, IsSame, gate_value, IsSaved}
-use Rattle.qsg_datasets.specs.declared.member_data_set.KeptMap.{KeptMap}
+use Rattle.qsg_dataset.specs.Contents.{IsSame, gate_value, IsSaved}
 use Rattle.qsg_datasets.specs.declared.member_data_set.Found.{Found}
 use Rattle.qsg_datasets.specs.Kept.{KeptSet, no_hands}
 
