@@ -227,8 +227,10 @@ impl<D: Disk> DataSet<D> {
     }
 
     /// Reads the header. The map is None exactly where the gate is 0, the map was saved for another epoch, or the
-    /// header isn't the spelling of a map of this data set. No byte of the data set changes.
+    /// header isn't the spelling of a map of this data set. No byte of the data set changes. Memory is found before the
+    /// device is called.
     pub fn load_map(&mut self, alloc: Global, epoch: u32) -> Result<Loaded, LoadError>
+        ensures memory { IsErrOf result error.NoMemory → self.new ≡ self.old }
         ensures same { IsSame self.old self.new }
         ensures later { self.old.faults ≤ self.new.faults }
         ensures cause { IsErrOf result error.Failed → Rose self.old.faults self.new.faults }
@@ -238,11 +240,12 @@ impl<D: Disk> DataSet<D> {
         ensures map { IfOk result (λ l. IfSome l.map (λ used. self.old.tells ≡ true → IsSaved epoch self.old.blocks used self.old.bytes)) }
         ensures none { IfOk result (λ l. IfNone l.map (self.old.tells ≡ true → (used : List Bool) → IsSaved epoch self.old.blocks used self.old.bytes → ⊥)) }
     {
+        let free = Map::new(alloc, self.blocks)?;
         let mut header = [0; DATA_SET_HEADER as usize];
         self.read_header(&mut header)?;
         let gate_open = header[0] != SHUT;
         let map = if gate_open {
-            saved_map(alloc, &header[1..], epoch, self.blocks)?
+            saved_map(free, &header[1..], epoch)
         } else {
             None
         };

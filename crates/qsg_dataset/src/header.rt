@@ -10,7 +10,6 @@ ghost use Rattle.qsg_dataset.specs.Headers.{bit_of, bits_byte, header_byte, spel
 
 use qsg_num::Block;
 use qsg_space::Map;
-use std::alloc::{AllocError, Global};
 
 /// Bytes of the header behind its gate.
 const REST: usize = 4_095;
@@ -68,24 +67,20 @@ fn bit(map: &Map, k: u32) -> u8
     u8::from(map.is_used(Block { number: k }))
 }
 
-/// The map of so many blocks that the bytes behind a gate spell for an epoch, if they spell one.
-pub fn saved_map(
-    alloc: Global,
-    rest: &[u8],
-    epoch: u32,
-    blocks: u32,
-) -> Result<Option<Map>, AllocError>
+/// The map that the bytes behind a gate spell for an epoch, if they spell one; it is made in this one of free blocks.
+pub fn saved_map(free: Map, rest: &[u8], epoch: u32) -> Option<Map>
     requires size { length rest.now ≡ 4095 }
-    requires blocks { blocks ≤ 8192 }
-    ensures size { IfOk result (λ found. IfSome found (λ used. length used ≡ blocks)) }
-    ensures spelled { IfOk result (λ found. IfSome found (λ used. rest.now ≡ spelling epoch used)) }
-    ensures none { IfOk result (λ found. IfNone found ((used : List Bool) → length used ≡ blocks → rest.now ≡ spelling epoch used → ⊥)) }
+    requires blocks { length free ≤ 8192 }
+    requires free { free ≡ replicate (length free) false }
+    ensures size { IfSome result (λ used. length used ≡ length free) }
+    ensures spelled { IfSome result (λ used. rest.now ≡ spelling epoch used) }
+    ensures none { IfNone result ((used : List Bool) → length used ≡ length free → rest.now ≡ spelling epoch used → ⊥) }
 {
-    let map = read_map(alloc, rest, blocks)?;
+    let map = read_map(free, rest);
     if is_spelled(rest, &map, epoch) {
-        Ok(Some(map))
+        Some(map)
     } else {
-        Ok(None)
+        None
     }
 }
 
@@ -98,16 +93,17 @@ fn is_spelled(rest: &[u8], map: &Map, epoch: u32) -> bool
     rest == spelled.as_slice()
 }
 
-/// The map of the bits behind a gate.
-fn read_map(alloc: Global, rest: &[u8], blocks: u32) -> Result<Map, AllocError>
+/// The map of the bits behind a gate, made in one of free blocks.
+fn read_map(free: Map, rest: &[u8]) -> Map
     requires size { length rest.now ≡ 4095 }
-    requires blocks { blocks ≤ 8192 }
-    ensures size { IfOk result (λ used. length used ≡ blocks) }
-    ensures bits { IfOk result (λ used. (k : ℕ) → k < blocks → slice_index_or used k false ≡ is_bit rest.now k) }
+    requires blocks { length free ≤ 8192 }
+    requires free { free ≡ replicate (length free) false }
+    ensures size { length result ≡ length free }
+    ensures bits { (k : ℕ) → k < length free → slice_index_or result k false ≡ is_bit rest.now k }
 {
-    let mut map = Map::new(alloc, blocks)?;
+    let mut map = free;
     claim_all(&mut map, rest);
-    Ok(map)
+    map
 }
 
 /// Makes used each block whose bit is 1.
