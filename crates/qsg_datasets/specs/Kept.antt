@@ -120,6 +120,10 @@ claimed_in blocks (Some m) = Some (record m { used = marked true blocks m.used }
 abbrev pub claimed : List Block → KeptSet → KeptSet
 claimed blocks set = record set { map = claimed_in blocks set.map }
 
+-- there is no map
+abbrev pub unmapped : KeptSet → KeptSet
+unmapped set = record set { map = None }
+
 -- its member's storage is gone
 abbrev pub emptied : KeptSet → KeptSet
 emptied set = record set { map = None; hands = no_hands }

@@ -7,10 +7,10 @@ ghost use Rattle.qsg_num.specs.declared.ids.Block.{Block};
 ghost use Rattle.qsg_disk.specs.Byte.{values};
 ghost use Rattle.qsg_space.specs.Spaces.{free_blocks, free_count, marked};
 ghost use Rattle.qsg_space.specs.Refusals.{IsWhyNone};
-ghost use Rattle.qsg_dataset.specs.Contents.{Contents, HasBlocks, block_bytes, header_of, offset_of};
+ghost use Rattle.qsg_dataset.specs.Contents.{Contents, HasBlocks, block_bytes, extent_of, header_of, offset_of};
 ghost use Rattle.qsg_dataset.specs.Steps.{Writes, Syncs, SaveStep, ShutStep};
 ghost use Rattle.qsg_dataset.specs.declared.data_set.LoadError.TheVariants as error;
-ghost use Rattle.qsg_datasets.specs.Kept.{KeptSet, IsKept, no_hand, no_hands, stands, used_by, used_in, hand_of, with_hand, taken_in, taken, given_back, freed_in, freed, claimed, emptied};
+ghost use Rattle.qsg_datasets.specs.Kept.{KeptSet, IsKept, no_hand, no_hands, stands, used_by, used_in, hand_of, with_hand, taken_in, taken, given_back, freed_in, freed, claimed, unmapped, emptied};
 ghost use Rattle.qsg_datasets.specs.Calls.{IsStorageSame, IsCut, IsLoaded};
 
 use qsg_dataset::{DataSet, LoadError, Loaded};
@@ -185,6 +185,13 @@ impl<D: Disk> MemberDataSet<D> {
         self.data.kept();
     }
 
+    /// A device that tells its bytes tells all of them.
+    pub fn whole(&self)
+        ensures { self.now.contents.tells ≡ true → length self.now.contents.bytes ≡ extent_of self.now.contents }
+    {
+        self.data.kept();
+    }
+
     /// The blocks of a data set, and the bytes of each.
     pub fn blocks(&self) -> u32
         ensures { result ≡ self.now.contents.blocks }
@@ -274,6 +281,13 @@ impl<D: Disk> MemberDataSet<D> {
         }
     }
 
+    /// Drops the map. Takes no memory.
+    pub fn drop_map(&mut self)
+        ensures { self.new ≡ unmapped self.old }
+    {
+        self.map = None;
+    }
+
     /// Drops the map and what tasks have taken. Takes no memory.
     pub fn clear(&mut self, alloc: Global)
         ensures { self.new ≡ emptied self.old }
@@ -343,9 +357,10 @@ impl<D: Disk> MemberDataSet<D> {
     }
 
     /// Reads the header, and makes a map that stands for an epoch: the one that was saved for it, or else one of free
-    /// blocks. An error leaves the map as it was; no byte changes.
+    /// blocks. An error leaves the map as it was; no byte changes. Memory is found before the device is called.
     pub fn load(&mut self, alloc: Global, epoch: u32) -> Result<Found, LoadError>
         ensures loaded { IfOk result (λ found. IsLoaded epoch found self.old self.new) }
+        ensures memory { IsErrOf result error.NoMemory → self.new ≡ self.old }
         ensures later { self.old.contents.faults ≤ self.new.contents.faults }
         ensures cause { IsErrOf result error.Failed → Rose self.old.contents.faults self.new.contents.faults }
         ensures same { OnErr result (IsStorageSame self.old self.new) }

@@ -1,7 +1,8 @@
 //! The data sets of a group, by the numbers of members and structures.
 
-ghost use Rattle.std.specs.Prelude.{◌≡◌, ◌≤◌, length, map};
+ghost use Rattle.std.specs.Prelude.{◌≡◌, ◌≤◌, true, length, map};
 ghost use Rattle.qsg_num.specs.Seats.{member_number, structure_number};
+ghost use Rattle.qsg_dataset.specs.Contents.{extent_of};
 ghost use Rattle.qsg_datasets.specs.Kept.{HasSet, IsKept, set_for, set_in, sets_of, with_set_for, with_set, with_sets_of, emptied, emptied_all};
 ghost use Rattle.qsg_datasets.specs.Calls.{AreCut};
 
@@ -162,6 +163,14 @@ impl<D: Disk> DataSets<D> {
         ensures { IsKept (set_in member structure self.now) }
     {
         self.set(member, structure).kept();
+    }
+
+    /// A device that tells its bytes tells all of them.
+    pub fn whole(&self, member: Member, structure: StructNo)
+        requires has { HasSet member structure self.now }
+        ensures { (set_in member structure self.now).contents.tells ≡ true → length (set_in member structure self.now).contents.bytes ≡ extent_of (set_in member structure self.now).contents }
+    {
+        self.set(member, structure).whole();
     }
 
     /// The power of each device of a member's data sets goes and comes back, and what it keeps of them is gone. `pick`
