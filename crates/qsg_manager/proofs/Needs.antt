@@ -16,7 +16,7 @@ use Rattle.qsg_group.specs.Group.{Group, idle}
 use Rattle.qsg_group.specs.Observers.{is_hardening}
 use Rattle.qsg_group.specs.Tables.{at_member, at_task}
 use Rattle.qsg_group.specs.Changes.{IsNeededFrom, idle_tasks, open_task, Change}
-use Rattle.qsg_group.specs.Changes.Change.{Draws, Puts, Gets, Begins, Hardens, BacksOut, Settles, Finishes, Crashes, Stops}
+use Rattle.qsg_group.specs.Changes.Change.{Draws, Puts, Gets, Ungets, Begins, Hardens, BacksOut, Settles, Finishes, Crashes, Stops}
 use Rattle.qsg_group.proofs.Tables.{cases_at, every_member}
 use Rattle.qsg_manager.specs.Storage.{task_in}
 use Rattle.qsg_manager.specs.Latches.{task_numbers, latch_of, needed_by, earlier, first_needed}
@@ -100,6 +100,7 @@ pub named_stays : (g h : Group) → Change g h → AreNamed g.tasks → AreNamed
 named_stays g _ (Draws _ u t may) all = named_at u.member t (open_task u [] []) g.tasks (has_name (open_task u [] []) u refl) all
 named_stays g _ (Puts _ u t ops claims s m outside may) all = named_at u.member t _ g.tasks (has_name _ u refl) all
 named_stays g _ (Gets _ u t ops claims s m outside may) all = named_at u.member t _ g.tasks (has_name _ u refl) all
+named_stays g _ (Ungets _ u t ops claims c may) all = named_at u.member t _ g.tasks (has_name _ u refl) all
 named_stays g _ (Begins _ u t ops claims may) all = named_at u.member t _ g.tasks (has_name _ u refl) all
 named_stays g _ (Hardens _ u t ops claims first next may) all = named_at u.member t _ g.tasks (has_name _ u refl) all
 named_stays g _ (BacksOut _ u t ops claims may) all = named_at u.member t _ g.tasks (has_name _ u refl) all

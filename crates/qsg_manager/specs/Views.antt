@@ -12,14 +12,14 @@ use Rattle.qsg_lists.specs.declared.parts.Entry.{Entry}
 use Rattle.qsg_lists.specs.Structures.{ListStructure}
 use Rattle.qsg_group.specs.Group.{Held, Shelf}
 
--- what data sets read: the body of an owner's blocks, of so many bytes
+-- what data sets read, of which a member has one for each structure: the body of an owner's blocks, of so many bytes
 abbrev pub Outside : Type 0
-Outside = Member → List Block → ℕ → List ℕ
+Outside = StructNo → Member → List Block → ℕ → List ℕ
 
--- the body of an entry: in the entry itself, or in its owner's data set
-abbrev pub body_of : Outside → Place → List ℕ
-body_of outside (Inline body) = body
-body_of outside (Offloaded owner blocks length) = outside owner blocks length
+-- the body of an entry of a structure: in the entry itself, or in its owner's data set for that structure
+abbrev pub body_of : Outside → StructNo → Place → List ℕ
+body_of outside s (Inline body) = body
+body_of outside s (Offloaded owner blocks length) = outside s owner blocks length
 
 abbrev pub is_outside : Place → Bool
 is_outside (Inline body) = false
@@ -40,7 +40,7 @@ message_of s id head body = record {
 
 -- an entry with its whole message
 abbrev pub held_of : Outside → StructNo → Entry → Held
-held_of outside s e = record { message = message_of s e.id e.head (body_of outside e.place); mark = e.mark; outside = is_outside e.place }
+held_of outside s e = record { message = message_of s e.id e.head (body_of outside s e.place); mark = e.mark; outside = is_outside e.place }
 
 -- a structure with whole messages
 abbrev pub shelf_of : Outside → StructNo → ListStructure → Shelf
