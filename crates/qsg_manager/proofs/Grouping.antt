@@ -114,6 +114,21 @@ task_changed rest ls ms m t y within five = λ i. record {
   history = rest.history;
 }
 
+-- ---- a structure changed alone
+
+pub structure_changed : (rest : Rest) (ls : List ListStructure) (ms : List Manager) (s : StructNo) (structure : ListStructure) (f : Shelf → Shelf)
+    → structure_number s ≤ length ls → shelf_of rest.outside s structure ≡ f (shelf_of rest.outside s (structure_in s ls))
+    → group_of rest (with_structure s structure ls) ms ≡ record (group_of rest ls ms) { shelves = at_structure s f (group_of rest ls ms).shelves }
+structure_changed rest ls ms s structure f within made = λ i. record {
+  shelves = λ x. shelves_with rest.outside s structure ls f within made x i;
+  logs = rest.logs;
+  seats = λ k. seat_of (manager_in k ms);
+  failed = rest.failed;
+  tasks = λ k j. task_at k j ms;
+  tops = rest.tops;
+  history = rest.history;
+}
+
 -- a task and a structure changed
 pub both_changed : (rest : Rest) (ls : List ListStructure) (ms : List Manager) (s : StructNo) (structure : ListStructure) (f : Shelf → Shelf) (m : Member) (t : TaskNo) (y : Task)
     → structure_number s ≤ length ls → shelf_of rest.outside s structure ≡ f (shelf_of rest.outside s (structure_in s ls)) → member_number m ≤ length ms → length (manager_in m ms).tasks ≡ 5

@@ -6,6 +6,7 @@ pub mod Takes
 pub mod Acting
 pub mod Needs
 pub mod Gets
+pub mod Ungets
 pub mod Ending
 pub mod Marked
 pub mod Cleared

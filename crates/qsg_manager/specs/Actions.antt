@@ -1,21 +1,26 @@
 -- When an action on structures and managers is one of the machine.
-use Rattle.std.specs.Prelude.{ℕ, ◌+◌, ◌^◌, ◌<◌, ◌≤◌, ◌≡◌, true, false, List, length, Option, Some, None, IfSome, slice_get}
+use Rattle.std.specs.Prelude.{ℕ, ◌+◌, ◌^◌, ◌<◌, ◌≤◌, ◌≡◌, true, false, List, [], ◌∷◌, ◌++◌, length, Option, Some, None, Ok, IfSome, slice_get}
 use Rattle.qsg_num.specs.declared.seats.Member.{Member}
 use Rattle.qsg_num.specs.declared.seats.StructNo.{StructNo}
 use Rattle.qsg_num.specs.declared.seats.TaskNo.{TaskNo}
 use Rattle.qsg_num.specs.declared.ids.UnitName.{UnitName}
+use Rattle.qsg_num.specs.declared.ids.EntryId.{EntryId}
 use Rattle.qsg_num.specs.declared.ids.PageNo.{PageNo}
 use Rattle.qsg_num.specs.declared.words.Delivery.{Delivery}
 use Rattle.qsg_num.specs.Seats.{member_number, structure_number}
 use Rattle.qsg_msg.specs.declared.message.Message.{Message}
 use Rattle.qsg_model.specs.declared.history.Op.{Op}
+use Rattle.qsg_model.specs.declared.history.Op.TheVariants.{Got}
 use Rattle.qsg_lists.specs.declared.parts.Connection.{Connection}
 use Rattle.qsg_lists.specs.declared.parts.Head.{Head}
 use Rattle.qsg_lists.specs.declared.parts.Place.{Place}
 use Rattle.qsg_lists.specs.declared.parts.Entry.{Entry}
+use Rattle.qsg_lists.specs.declared.parts.Lost.{Lost}
 use Rattle.qsg_lists.specs.declared.parts.Selector.{Selector}
+use Rattle.qsg_lists.specs.declared.parts.Settled.TheVariants.{Done}
 use Rattle.qsg_lists.specs.Entries.{AreInOrder}
 use Rattle.qsg_lists.specs.Structures.{ListStructure, lost_of}
+use Rattle.qsg_lists.specs.Settling.{forget_answer}
 use Rattle.qsg_lists.specs.Writing.{next_id}
 use Rattle.qsg_group.specs.declared.tasks.Claim.{Claim}
 use Rattle.qsg_group.specs.declared.tasks.Task.{Task}
@@ -68,6 +73,24 @@ pub record MayTake (structures : List ListStructure) (managers : List Manager) (
   pub has : task_at u.member t managers ≡ open_task u ops claims
   pub found : found_in connection queue order select structures ≡ Some e
   pub ordered : AreInOrder (structure_in connection.structure structures).entries
+
+-- an open unit undoes the get that is its last operation
+pub record MayUngetEntry (structures : List ListStructure) (managers : List Manager) (u : UnitName) (t : TaskNo) (ops : List (StructNo × Op)) (claims : List Claim) (c : Claim) : Type 0 where
+  pub member : IsMember u.member managers
+  pub structure : IsServed c.connection structures
+  pub has : task_at u.member t managers ≡ open_task u (ops ++ (c.connection.structure, Got c.id) ∷ []) (claims ++ c ∷ [])
+
+-- an open unit drops that get, whose connection isn't served any more
+pub record MayDropGet (structures : List ListStructure) (managers : List Manager) (u : UnitName) (t : TaskNo) (ops : List (StructNo × Op)) (claims : List Claim) (c : Claim) : Type 0 where
+  pub member : IsMember u.member managers
+  pub told : Lost
+  pub lost : lost_of (structure_in c.connection.structure structures) c.connection ≡ Some told
+  pub has : task_at u.member t managers ≡ open_task u (ops ++ (c.connection.structure, Got c.id) ∷ []) (claims ++ c ∷ [])
+
+-- an entry is forgotten: its connection is served, and it is marked Cleanup
+pub record MayForgetEntry (structures : List ListStructure) (connection : Connection) (id : EntryId) : Type 0 where
+  pub within : structure_number connection.structure ≤ length structures
+  pub done : forget_answer (structure_in connection.structure structures) connection id ≡ Ok Done
 
 -- an open unit takes the log's latch, which no task of the member has, for a run from the log's next page on
 pub record MayBeginUnit (logs : Member → Log) (managers : List Manager) (u : UnitName) (t : TaskNo) (ops : List (StructNo × Op)) (claims : List Claim) (first : PageNo) : Type 0 where

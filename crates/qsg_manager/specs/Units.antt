@@ -1,5 +1,5 @@
 -- what becomes of a task's unit
-use Rattle.std.specs.Prelude.{[], List}
+use Rattle.std.specs.Prelude.{◌-◌, [], List, length, take}
 use Rattle.qsg_num.specs.declared.seats.Member.{Member}
 use Rattle.qsg_num.specs.declared.seats.TaskNo.{TaskNo}
 use Rattle.qsg_group.specs.declared.tasks.Stage.{Stage}
@@ -34,6 +34,17 @@ with_hardened m t managers = with_task m t (decided (safe_stage (task_at m t man
 
 abbrev pub with_backed_out : Member → TaskNo → List Manager → List Manager
 with_backed_out m t managers = with_task m t (decided (BackedOut 0) (task_at m t managers)) managers
+
+-- a list without its last element
+abbrev pub front : {X : Type 0} → List X → List X
+front xs = take (length xs - 1) xs
+
+-- a task without its unit's last operation, and without that operation's claim
+abbrev pub without_last : Task → Task
+without_last task = record task { ops = front task.ops; claims = front task.claims }
+
+abbrev pub with_dropped : Member → TaskNo → List Manager → List Manager
+with_dropped m t managers = with_task m t (without_last (task_at m t managers)) managers
 
 -- a task that holds nothing any more
 abbrev pub with_idle : Member → TaskNo → List Manager → List Manager

@@ -1,10 +1,11 @@
 //! Actions on structures and on what members keep are changes of the machine, which keep its laws.
 
-ghost use Rattle.std.specs.Prelude.{ℕ, List, Option, Some};
+ghost use Rattle.std.specs.Prelude.{ℕ, false, List, Option, Some};
 ghost use Rattle.qsg_num.specs.declared.seats.Member.{Member};
 ghost use Rattle.qsg_num.specs.declared.seats.StructNo.{StructNo};
 ghost use Rattle.qsg_num.specs.declared.seats.TaskNo.{TaskNo};
 ghost use Rattle.qsg_num.specs.declared.ids.UnitName.{UnitName};
+ghost use Rattle.qsg_num.specs.declared.ids.EntryId.{EntryId};
 ghost use Rattle.qsg_num.specs.declared.ids.PageNo.{PageNo};
 ghost use Rattle.qsg_num.specs.declared.words.Delivery.{Delivery};
 ghost use Rattle.qsg_msg.specs.declared.message.Message.{Message};
@@ -17,11 +18,11 @@ ghost use Rattle.qsg_lists.specs.declared.parts.Selector.{Selector};
 ghost use Rattle.qsg_lists.specs.Entries.{AreInOrder};
 ghost use Rattle.qsg_lists.specs.Structures.{ListStructure};
 ghost use Rattle.qsg_lists.specs.Writing.{written, next_id};
-ghost use Rattle.qsg_lists.specs.Settling.{settle_answer, settled_entry, revised_if_done};
+ghost use Rattle.qsg_lists.specs.Settling.{settle_answer, settled_entry, forget_answer, deleted, revised_if_done};
 ghost use Rattle.qsg_group.specs.declared.tasks.Claim.{Claim};
 ghost use Rattle.qsg_group.specs.declared.tasks.Stage.TheVariants.{Hardening};
 ghost use Rattle.qsg_group.specs.Group.{Group};
-ghost use Rattle.qsg_group.specs.Laws.{IsShelf};
+ghost use Rattle.qsg_group.specs.Laws.{IsShelf, Laws};
 ghost use Rattle.qsg_group.specs.Changes.{Change};
 ghost use Rattle.qsg_manager.specs.declared.managers.Manager.{Manager};
 ghost use Rattle.qsg_manager.specs.Facilities.{structure_in, with_structure};
@@ -31,9 +32,9 @@ ghost use Rattle.qsg_manager.specs.Putting.{with_put};
 ghost use Rattle.qsg_manager.specs.Settles.{commits, further};
 ghost use Rattle.qsg_manager.specs.Views.{Outside, shelf_of};
 ghost use Rattle.qsg_manager.specs.Getting.{with_taken, with_found};
-ghost use Rattle.qsg_manager.specs.Units.{with_name, with_stage, with_hardened, with_backed_out, with_idle};
+ghost use Rattle.qsg_manager.specs.Units.{with_name, with_stage, with_hardened, with_backed_out, with_dropped, with_idle};
 ghost use Rattle.qsg_manager.specs.Rests.{with_unit, with_low};
-ghost use Rattle.qsg_manager.specs.Actions.{MayWrite, MaySettleNext, MayTake, MayDrawName, MayBeginUnit, MayHardenUnit, MayBackOutUnit, MayFinishUnit, MayTellLow, AreNamed};
+ghost use Rattle.qsg_manager.specs.Actions.{MayWrite, MaySettleNext, MayTake, MayUngetEntry, MayDropGet, MayForgetEntry, MayDrawName, MayBeginUnit, MayHardenUnit, MayBackOutUnit, MayFinishUnit, MayTellLow, AreNamed};
 
 /// The entry and the operation that `write_entry` leaves are the machine's put.
 pub fn a_write_is_a_put()
@@ -58,6 +59,31 @@ pub fn a_get_is_a_change()
     ensures { (rest : Rest) (structures : List ListStructure) (managers : List Manager) (u : UnitName) (t : TaskNo) (ops : List (StructNo × Op)) (claims : List Claim) (connection : Connection) (queue : List ℕ) (order : Delivery) (select : Selector) (e : Entry) →
         MayTake structures managers u t ops claims connection queue order select e →
         Change (group_of rest structures managers) (group_of rest (with_taken u connection (Some e) structures) (with_found u.member t connection (Some e) managers)) }
+{}
+
+/// What `unget_entry` leaves of a structure and of a task, where the connection is served, is the machine's unget.
+pub fn an_unget_is_a_change()
+    ensures { (rest : Rest) (structures : List ListStructure) (managers : List Manager) (u : UnitName) (t : TaskNo) (ops : List (StructNo × Op)) (claims : List Claim) (c : Claim) →
+        MayUngetEntry structures managers u t ops claims c →
+        Change (group_of rest structures managers)
+        (group_of rest (with_structure c.connection.structure (revised_if_done (settle_answer (structure_in c.connection.structure structures) c.connection c.id u) c.id (settled_entry false) (structure_in c.connection.structure structures)) structures)
+        (with_dropped u.member t managers)) }
+{}
+
+/// Where the connection of a unit's last get isn't served any more, what `drop_last` leaves of its task is the machine's
+/// unget, too: by the laws the structure isn't active, so that none of its entries is pending.
+pub fn a_dropped_get_is_a_change()
+    ensures { (rest : Rest) (structures : List ListStructure) (managers : List Manager) (u : UnitName) (t : TaskNo) (ops : List (StructNo × Op)) (claims : List Claim) (c : Claim) →
+        MayDropGet structures managers u t ops claims c → Laws (group_of rest structures managers) →
+        Change (group_of rest structures managers) (group_of rest structures (with_dropped u.member t managers)) }
+{}
+
+/// What `forget_entry` leaves of a structure, where it deletes the entry, is the machine's forget.
+pub fn a_forget_is_a_change()
+    ensures { (rest : Rest) (structures : List ListStructure) (managers : List Manager) (connection : Connection) (id : EntryId) →
+        MayForgetEntry structures connection id →
+        Change (group_of rest structures managers)
+        (group_of rest (with_structure connection.structure (revised_if_done (forget_answer (structure_in connection.structure structures) connection id) id deleted (structure_in connection.structure structures)) structures) managers) }
 {}
 
 /// A structure that the machine's laws see is in order of id.

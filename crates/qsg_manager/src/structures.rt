@@ -1,6 +1,6 @@
 //! The list structures of a group, by their numbers.
 
-ghost use Rattle.std.specs.Prelude.{◌≡◌, ◌≤◌, ◌<◌, ◌+◌, ◌*◌, ◌-◌, ◌^◌, ℕ, List, OnOk, OnErr, IfOk, IfErr, None, option_map, length, slice_set};
+ghost use Rattle.std.specs.Prelude.{◌≡◌, ◌≤◌, ◌<◌, ◌+◌, ◌*◌, ◌-◌, ◌^◌, ℕ, List, OnOk, OnErr, IfOk, IfErr, None, find, option_map, length, slice_set};
 ghost use Rattle.qsg_lists.specs.Marks.{names_member};
 ghost use Rattle.qsg_manager.specs.Marked.{marked_entry, marks_in, marks_of};
 
@@ -91,9 +91,9 @@ fn marks_of(structures: &[Structure], member: Member, incarnation: Incarnation) 
 
 impl Structures {
     ghost use Rattle.qsg_num.specs.Seats.{structure_number};
-    ghost use Rattle.qsg_lists.specs.Structures.{ListStructure, IsSound, connect_answer, lost_of, unless};
-    ghost use Rattle.qsg_lists.specs.Entries.{depth_of, first_of};
-    ghost use Rattle.qsg_lists.specs.Settling.{settle_answer, settled_entry, revised_if_done};
+    ghost use Rattle.qsg_lists.specs.Structures.{ListStructure, IsSound, connect_answer, lost_of, unless, Answers};
+    ghost use Rattle.qsg_lists.specs.Entries.{entry_at, is_above, is_cleanup_above, depth_of, first_of};
+    ghost use Rattle.qsg_lists.specs.Settling.{settle_answer, settled_entry, forget_answer, deleted, revised_if_done};
     ghost use Rattle.qsg_lists.specs.Taking.{taken};
     ghost use Rattle.qsg_lists.specs.Writing.{write_refusal, next_id, written, IsWhy};
     ghost use Rattle.qsg_manager.specs.Facilities.{structure_in, with_structure};
@@ -196,6 +196,35 @@ impl Structures {
         }
     }
 
+    /// The entry of an id of a structure.
+    pub fn entry_at(&self, connection: Connection, id: EntryId) -> Result<Option<&Entry>, Lost>
+        requires within { structure_number connection.structure ≤ length self.now }
+        ensures { Answers result (lost_of (structure_in connection.structure self.now) connection) (entry_at id (structure_in connection.structure self.now).entries) }
+    {
+        self.items[connection.structure.index()].entry(connection, id)
+    }
+
+    /// The entry of least id above an id.
+    pub fn entry_after(&self, connection: Connection, id: EntryId) -> Result<Option<&Entry>, Lost>
+        requires within { structure_number connection.structure ≤ length self.now }
+        ensures { Answers result (lost_of (structure_in connection.structure self.now) connection) (find (is_above id) (structure_in connection.structure self.now).entries) }
+    {
+        self.items[connection.structure.index()].entry_after(connection, id)
+    }
+
+    /// The same among removed entries whose blocks are this owner's.
+    pub fn cleanup_after(
+        &self,
+        connection: Connection,
+        owner: Member,
+        id: EntryId,
+    ) -> Result<Option<&Entry>, Lost>
+        requires within { structure_number connection.structure ≤ length self.now }
+        ensures { Answers result (lost_of (structure_in connection.structure self.now) connection) (find (is_cleanup_above owner id) (structure_in connection.structure self.now).entries) }
+    {
+        self.items[connection.structure.index()].cleanup_after(connection, owner, id)
+    }
+
     /// The entry of least id above an id whose mark names a unit of this incarnation of the member, and that unit.
     pub fn marked_after(
         &self,
@@ -258,5 +287,15 @@ impl Structures {
     {
         let chosen = &mut self.items[connection.structure.index()];
         chosen.settle(connection, id, unit, commits)
+    }
+
+    /// Deletes a removed entry.
+    pub fn forget(&mut self, connection: Connection, id: EntryId) -> Result<Settled, Lost>
+        requires within { structure_number connection.structure ≤ length self.old }
+        ensures answer { result ≡ forget_answer (structure_in connection.structure self.old) connection id }
+        ensures after { self.new ≡ with_structure connection.structure (revised_if_done result id deleted (structure_in connection.structure self.old)) self.old }
+    {
+        let chosen = &mut self.items[connection.structure.index()];
+        chosen.forget(connection, id)
     }
 }
