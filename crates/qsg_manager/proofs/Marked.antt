@@ -1,5 +1,5 @@
 -- how many entries an incarnation has marked
-use Rattle.std.proofs.Common.{ℕ, ◌≤◌, Bool, true, false, cond, List, arith}
+use Rattle.std.proofs.Common.{◌≤◌, Bool, true, false, cond, List, arith}
 use Rattle.std.proofs.lemmas.List.Sums.{sum_by-le-sum_by}
 use Rattle.qsg_num.specs.declared.seats.Member.{Member}
 use Rattle.qsg_num.specs.declared.ids.Incarnation.{Incarnation}

@@ -1,5 +1,5 @@
 -- a get that is undone, and an entry that is forgotten, are the machine's
-use Rattle.std.proofs.Common.{◌≡◌, ◌+◌, ◌-◌, ℕ, Bool, true, false, cond, List, [], ◌∷◌, ◌++◌, length, take, map, Option, Some, None, Result, Ok, Err, refl, sym, ap, subst, ◌∙◌, inl, inr, arith}
+use Rattle.std.proofs.Common.{◌≡◌, ◌-◌, Bool, true, false, cond, List, [], ◌∷◌, ◌++◌, length, Option, Some, None, Result, Ok, refl, sym, ap, subst, ◌∙◌, inl, inr, arith}
 use Rattle.std.specs.Prelude.{option_map, ◌==◌, ◌&&◌}
 use Rattle.std.proofs.lemmas.Bool.{eq-eqb}
 use Rattle.std.proofs.lemmas.List.{length-append, take_at}
@@ -36,7 +36,7 @@ use Rattle.qsg_group.proofs.Reading.{inactive_stays}
 use Rattle.qsg_manager.specs.declared.managers.Manager.{Manager}
 use Rattle.qsg_manager.specs.Views.{Outside, held_of, shelf_of}
 use Rattle.qsg_manager.specs.Facilities.{structure_in, with_structure}
-use Rattle.qsg_manager.specs.Storage.{task_at, with_task}
+use Rattle.qsg_manager.specs.Storage.{task_at}
 use Rattle.qsg_manager.specs.Groups.{Rest, group_of}
 use Rattle.qsg_manager.specs.Units.{front, without_last, with_dropped}
 use Rattle.qsg_manager.specs.Actions.{MayUngetEntry, MayDropGet, MayForgetEntry}

@@ -8,12 +8,12 @@ ghost use Rattle.qsg_manager.specs.Storage.{manager_in};
 
 use super::*;
 use qsg_group::{Stage, Task};
-use qsg_lists::{Connection, Head, Place, Selector, Settled, Structure, WriteWhy};
+use qsg_lists::{Connection, Head, Mark, Place, Selector, Settled, Structure, WriteWhy};
 use qsg_model::History;
 use qsg_msg::Message;
 use qsg_num::{
-    Body, Delivery, EntryId, Incarnation, InlineBody, Member, Name, PageNo, Priority, QueueName,
-    StructNo, TaskNo, UnitName,
+    Block, Blocks, Body, Delivery, EntryId, Incarnation, InlineBody, Member, Name, PageNo,
+    Priority, QueueName, StructNo, TaskNo, UnitName,
 };
 use std::alloc::Global;
 use std::test::*;
@@ -220,23 +220,22 @@ fn a_unit_puts_and_commits(rt: HostRuntime) {
     assert_eq!(rt; managers.name(Member::One, TaskNo::Two), None);
 }
 
-/// A structure in which a message waits: `hello` of queue `Q1`, persistent.
-fn with_message(alloc: Global) -> Option<Structures>
+/// A structure in which this entry waits, as that of id 1.
+fn with_waiting(alloc: Global, entry: NewEntry) -> Option<Structures>
     ensures one { IfSome result (λ s. length s ≡ 1) }
 {
     let (mut structures, mut task) = parts(alloc)?;
-    write_entry(
-        alloc,
-        &mut structures,
-        &mut task,
-        NOW,
-        UNIT,
-        hello(alloc, 1)?,
-    )
-    .ok()?;
+    write_entry(alloc, &mut structures, &mut task, NOW, UNIT, entry).ok()?;
     let id = EntryId { number: 1 };
     structures.settle(NOW, id, UNIT, true).ok()?;
     Some(structures)
+}
+
+/// One in which `hello` of queue `Q1` waits, persistent.
+fn with_message(alloc: Global) -> Option<Structures>
+    ensures one { IfSome result (λ s. length s ≡ 1) }
+{
+    with_waiting(alloc, hello(alloc, 1)?)
 }
 
 #[test]
@@ -277,4 +276,126 @@ fn a_unit_gets_and_backs_out(rt: HostRuntime) {
         return;
     };
     assert_eq!(rt; claim.id, taken.id);
+}
+
+#[test]
+fn a_get_is_undone(rt: HostRuntime) {
+    let alloc = rt.alloc();
+    let (Some(mut structures), Some(mut managers), Some(name)) = (
+        with_message(alloc),
+        one_member(alloc),
+        queue(alloc),
+    ) else {
+        assert!(rt; false);
+        return;
+    };
+    let task = TaskNo::One;
+    let unit = draw_name(alloc, &mut managers, Member::One, task);
+    let Ok(Some(taken)) = get_entry(
+        alloc,
+        &mut structures,
+        &mut managers,
+        unit,
+        task,
+        NOW,
+        &name,
+        Delivery::Fifo,
+        &ANY,
+    ) else {
+        assert!(rt; false);
+        return;
+    };
+    assert_eq!(rt;
+        unget_entry(
+            alloc,
+            &mut structures,
+            &mut managers,
+            unit,
+            task,
+            NOW,
+            taken.id
+        ),
+        Ok(Settled::Done)
+    );
+    assert_eq!(rt; managers.operations(Member::One, task), 0);
+    assert!(rt;
+        managers
+            .task(Member::One, task)
+            .claims
+            .as_slice()
+            .is_empty()
+    );
+    // it may be had again
+    let Ok(Some(again)) = get_entry(
+        alloc,
+        &mut structures,
+        &mut managers,
+        unit,
+        task,
+        NOW,
+        &name,
+        Delivery::Fifo,
+        &ANY,
+    ) else {
+        assert!(rt; false);
+        return;
+    };
+    assert_eq!(rt; again.id, taken.id);
+    // a get that is dropped leaves its mark
+    drop_last(alloc, &mut managers, Member::One, task);
+    assert_eq!(rt; managers.operations(Member::One, task), 0);
+    match structures.entry_at(NOW, taken.id) {
+        Ok(Some(entry)) => assert_eq!(rt; entry.mark, Mark::GotBy(unit)),
+        _ => assert!(rt; false),
+    }
+}
+
+/// One in which `hello` waits whose body stands in a block of the second member's data set.
+fn with_outside(alloc: Global) -> Option<Structures>
+    ensures one { IfSome result (λ s. length s ≡ 1) }
+{
+    let mut entry = hello(alloc, 1)?;
+    entry.place = Place::Offloaded {
+        owner: Member::Two,
+        blocks: Blocks::from_slice(alloc, &[Block { number: 3 }]).ok()?,
+        length: 5,
+    };
+    with_waiting(alloc, entry)
+}
+
+#[test]
+fn a_removed_entry_is_forgotten(rt: HostRuntime) {
+    let alloc = rt.alloc();
+    let (Some(mut structures), Some(name)) = (with_outside(alloc), queue(alloc)) else {
+        assert!(rt; false);
+        return;
+    };
+    let Ok(room) = Room::new(alloc, &name) else {
+        assert!(rt; false);
+        return;
+    };
+    let none = EntryId { number: 0 };
+    let id = EntryId { number: 1 };
+    assert!(rt;
+        structures
+            .take(NOW, UNIT, room, Delivery::Fifo, &ANY)
+            .is_ok()
+    );
+    assert_eq!(rt;
+        forget_entry(&mut structures, NOW, id),
+        Ok(Settled::NotYours(Some(Mark::GotBy(UNIT))))
+    );
+    assert_eq!(rt; structures.settle(NOW, id, UNIT, true), Ok(Settled::Done));
+    assert!(rt; matches!(structures.entry_after(NOW, none), Ok(Some(e)) if e.id == id));
+    assert!(rt; matches!(structures.entry_after(NOW, id), Ok(None)));
+    assert!(rt;
+        matches!(structures.cleanup_after(NOW, Member::Two, none), Ok(Some(e)) if e.id == id)
+    );
+    assert!(rt; matches!(structures.cleanup_after(NOW, Member::One, none), Ok(None)));
+    assert_eq!(rt; forget_entry(&mut structures, NOW, id), Ok(Settled::Done));
+    assert!(rt; matches!(structures.entry_at(NOW, id), Ok(None)));
+    assert_eq!(rt;
+        forget_entry(&mut structures, NOW, id),
+        Ok(Settled::NotYours(None))
+    );
 }
