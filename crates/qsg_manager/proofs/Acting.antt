@@ -66,11 +66,11 @@ write_is_put rest structures managers u t ops claims connection head place messa
     let g = group_of rest structures managers in
     let epoch = served_epoch ls connection may.structure.served in
     let made = both_changed rest structures managers s (written ls u head place)
-    (with_entry (record { message = message_of s (next_id ls) head (body_of rest.outside s place); mark = PutBy u; outside = is_outside place }))
+    (with_entry (record { message = message_of s (next_id ls) head (body_of (rest.outside s) place); mark = PutBy u; outside = is_outside place }))
     u.member t (with_put connection message (next_id ls) (task_at u.member t managers))
     may.structure.within (write_adds rest.outside s ls u head place) may.member.within may.member.five in
     let same : record g {
-      shelves = at_structure s (with_entry (record { message = message_of s (next_id ls) head (body_of rest.outside s place); mark = PutBy u; outside = is_outside place })) g.shelves;
+      shelves = at_structure s (with_entry (record { message = message_of s (next_id ls) head (body_of (rest.outside s) place); mark = PutBy u; outside = is_outside place })) g.shelves;
       tasks = at_task u.member t (λ old. with_put connection message (next_id ls) (task_at u.member t managers)) g.tasks;
     } ≡ put g u t ops claims s m (is_outside place) = λ i. record g {
       shelves = at_structure s (with_entry (record { message = sym may.says i; mark = PutBy u; outside = is_outside place })) g.shelves;

@@ -42,7 +42,7 @@ map_push f [] y = refl
 map_push f (x ∷ xs) y = ap (λ l. f x ∷ l) (map_push f xs y)
 
 pub write_adds : (o : Outside) (s : StructNo) (structure : ListStructure) (unit : UnitName) (head : Head) (place : Place)
-    → shelf_of o s (written structure unit head place) ≡ with_entry (record { message = message_of s (next_id structure) head (body_of o s place); mark = PutBy unit; outside = is_outside place }) (shelf_of o s structure)
+    → shelf_of o s (written structure unit head place) ≡ with_entry (record { message = message_of s (next_id structure) head (body_of (o s) place); mark = PutBy unit; outside = is_outside place }) (shelf_of o s structure)
 write_adds o s structure unit head place = ap (λ (es : List Held). record (shelf_of o s structure) { last = structure.last + 1; entries = es }) (map_push (held_of o s) structure.entries _)
 
 map_cons_option : (o : Outside) (s : StructNo) (x : Option Entry) (es : List Entry) → map (held_of o s) (cons_option x es) ≡ cons_option (option_map (held_of o s) x) (map (held_of o s) es)

@@ -47,7 +47,7 @@ visible_is Cleanup is = absurd cc
 
 -- the machine finds the entry that a get is given, visible
 found_there : (o : Outside) (s : StructNo) (queue : List ℕ) (order : Delivery) (select : Selector) (es : List Entry) (e : Entry) → lists.AreInOrder es → lists.first_of queue order select es ≡ Some e
-    → entry_at e.id.number (map (held_of o s) es) ≡ Some (record { message = message_of s e.id e.head (body_of o s e.place); mark = Visible; outside = is_outside e.place })
+    → entry_at e.id.number (map (held_of o s) es) ≡ Some (record { message = message_of s e.id e.head (body_of (o s) e.place); mark = Visible; outside = is_outside e.place })
 found_there o s queue order select es e ordered first =
     found o s e.id es
     ∙ ap (option_map (held_of o s)) (find-entry_at (lists.is_first queue order select es) es e ordered first)
@@ -55,7 +55,7 @@ found_there o s queue order select es e ordered first =
 
 -- the task that a get leaves is the machine's
 got_task : (u : UnitName) (ops : List (StructNo × Op)) (claims : List Claim) (c : Connection) (e : Entry) (o : Outside) (shelf : Shelf) (task : Task) → task ≡ open_task u ops claims → c.epoch ≡ shelf.epoch
-    → with_got c e task ≡ open_task u (ops ++ (c.structure, Got e.id) ∷ []) (claims ++ claim_of c.structure shelf (message_of c.structure e.id e.head (body_of o c.structure e.place)) ∷ [])
+    → with_got c e task ≡ open_task u (ops ++ (c.structure, Got e.id) ∷ []) (claims ++ claim_of c.structure shelf (message_of c.structure e.id e.head (body_of (o c.structure) e.place)) ∷ [])
 got_task u ops claims c e o shelf task is epoch =
     ap (with_got c e) is
     ∙ ap (λ n. open_task u (ops ++ (c.structure, Got e.id) ∷ []) (claims ++ record { connection = record { structure = c.structure; epoch = n }; id = e.id; persistent = e.head.persistent } ∷ [])) epoch
@@ -66,7 +66,7 @@ pub get_is_get : (rest : Rest) (structures : List ListStructure) (managers : Lis
 get_is_get rest structures managers u t ops claims c queue order select e may =
     let s = c.structure in
     let ls = structure_in s structures in
-    let m = message_of s e.id e.head (body_of rest.outside s e.place) in
+    let m = message_of s e.id e.head (body_of (rest.outside s) e.place) in
     let g = group_of rest structures managers in
     let made = both_changed rest structures managers s (record ls { entries = lists.revise e.id (λ x. Some (got_by u x)) ls.entries })
     (with_entries (revise e.id.number (marked (GotBy u)))) u.member t (with_got c e (task_at u.member t managers))

@@ -51,7 +51,7 @@ pub record MayWrite (outside : Outside) (structures : List ListStructure) (manag
   pub structure : IsServed connection structures
   pub has : task_at u.member t managers ≡ open_task u ops claims
   pub fits : (structure_in connection.structure structures).last + 1 < 2 ^ 40
-  pub says : with_id (next_id (structure_in connection.structure structures)) message ≡ message_of connection.structure (next_id (structure_in connection.structure structures)) head (body_of outside connection.structure place)
+  pub says : with_id (next_id (structure_in connection.structure structures)) message ≡ message_of connection.structure (next_id (structure_in connection.structure structures)) head (body_of (outside connection.structure) place)
 
 -- a committed or backed out unit settles its next claim
 pub record MaySettleNext (structures : List ListStructure) (managers : List Manager) (u : UnitName) (t : TaskNo) (claims : List Claim) (first : Option ℕ) (n : ℕ) (c : Claim) : Type 0 where

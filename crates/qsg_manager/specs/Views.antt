@@ -12,14 +12,18 @@ use Rattle.qsg_lists.specs.declared.parts.Entry.{Entry}
 use Rattle.qsg_lists.specs.Structures.{ListStructure}
 use Rattle.qsg_group.specs.Group.{Held, Shelf}
 
--- what data sets read, of which a member has one for each structure: the body of an owner's blocks, of so many bytes
-abbrev pub Outside : Type 0
-Outside = StructNo → Member → List Block → ℕ → List ℕ
+-- what the data sets of one structure read: the body of an owner's blocks, of so many bytes
+abbrev pub Bodies : Type 0
+Bodies = Member → List Block → ℕ → List ℕ
 
--- the body of an entry of a structure: in the entry itself, or in its owner's data set for that structure
-abbrev pub body_of : Outside → StructNo → Place → List ℕ
-body_of outside s (Inline body) = body
-body_of outside s (Offloaded owner blocks length) = outside s owner blocks length
+-- what all data sets read, of which a member has one for each structure
+abbrev pub Outside : Type 0
+Outside = StructNo → Bodies
+
+-- the body of an entry: in the entry itself, or in its owner's data set
+abbrev pub body_of : Bodies → Place → List ℕ
+body_of bodies (Inline body) = body
+body_of bodies (Offloaded owner blocks length) = bodies owner blocks length
 
 abbrev pub is_outside : Place → Bool
 is_outside (Inline body) = false
@@ -40,7 +44,7 @@ message_of s id head body = record {
 
 -- an entry with its whole message
 abbrev pub held_of : Outside → StructNo → Entry → Held
-held_of outside s e = record { message = message_of s e.id e.head (body_of outside s e.place); mark = e.mark; outside = is_outside e.place }
+held_of outside s e = record { message = message_of s e.id e.head (body_of (outside s) e.place); mark = e.mark; outside = is_outside e.place }
 
 -- a structure with whole messages
 abbrev pub shelf_of : Outside → StructNo → ListStructure → Shelf

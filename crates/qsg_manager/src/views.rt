@@ -30,7 +30,7 @@ pub fn an_entry_is_found()
 pub fn a_write_adds()
     ensures { (outside : Outside) (s : StructNo) (structure : ListStructure) (unit : UnitName) (head : Head) (place : Place) →
         shelf_of outside s (written structure unit head place) ≡
-        with_entry (record { message = message_of s (next_id structure) head (body_of outside s place); mark = PutBy unit; outside = is_outside place }) (shelf_of outside s structure) }
+        with_entry (record { message = message_of s (next_id structure) head (body_of (outside s) place); mark = PutBy unit; outside = is_outside place }) (shelf_of outside s structure) }
 {}
 
 /// A take of a connection that is served marks the entry that comes first, or none.
