@@ -6,6 +6,7 @@ ghost use Rattle.qsg_logs.specs.Kept.{log_in};
 ghost use Rattle.qsg_logs.specs.Writers.{new_writer};
 
 use crate::crash;
+use qsg_datasets::DataSets;
 use qsg_disk_mem::MemDisk;
 use qsg_group::{Claims, Stage, Task};
 use qsg_logs::{Logs, MemberLog};
