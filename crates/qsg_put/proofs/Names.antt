@@ -9,7 +9,7 @@ use Rattle.qsg_group.specs.declared.tasks.Task.{Task}
 use Rattle.qsg_group.specs.Tables.{at_member, at_task}
 use Rattle.qsg_group.specs.Group.{Group, idle}
 use Rattle.qsg_group.specs.Changes.{Change, open_task, hardening_task, settling_task, claim_of, idle_tasks}
-use Rattle.qsg_group.specs.Changes.Change.{Draws, Puts, Gets, Begins, Hardens, BacksOut, Settles, Finishes, Crashes, Stops}
+use Rattle.qsg_group.specs.Changes.Change.{Draws, Puts, Gets, Ungets, Begins, Hardens, BacksOut, Settles, Finishes, Crashes, Stops}
 use Rattle.qsg_group.proofs.Tables.{cases_at, every_member}
 use Rattle.qsg_put.specs.Outcomes.{AreOwn}
 
@@ -32,6 +32,7 @@ pub own_stays : (g h : Group) → Change g h → AreOwn g.tasks → AreOwn h.tas
 own_stays g _ (Draws _ u t may) all = named_own u t (open_task u [] []) g.tasks refl all
 own_stays g _ (Puts _ u t ops claims s m outside may) all = named_own u t (open_task u (ops ++ (s, Put m) ∷ []) (claims ++ claim_of s (g.shelves s) m ∷ [])) g.tasks refl all
 own_stays g _ (Gets _ u t ops claims s m outside may) all = named_own u t (open_task u (ops ++ (s, Got m.id) ∷ []) (claims ++ claim_of s (g.shelves s) m ∷ [])) g.tasks refl all
+own_stays g _ (Ungets _ u t ops claims c may) all = named_own u t (open_task u ops claims) g.tasks refl all
 own_stays g _ (Begins _ u t ops claims may) all = named_own u t (hardening_task u ops claims (g.logs u.member).next) g.tasks refl all
 own_stays g _ (Hardens _ u t ops claims first next may) all = named_own u t (settling_task u claims (Some (g.logs u.member).next) 0) g.tasks refl all
 own_stays g _ (BacksOut _ u t ops claims may) all = named_own u t (settling_task u claims None 0) g.tasks refl all

@@ -118,7 +118,7 @@ seated_laws seats = let e = nothing_happened in record {
 }
 
 abbrev first_rest : Rest
-first_rest = record { outside = λ m blocks n. []; logs = λ m. record { runs = []; next = 0; low = 0; keep = 0 }; failed = λ m i. false; tops = λ s. 0; history = [] }
+first_rest = record { outside = λ s m blocks n. []; logs = λ m. record { runs = []; next = 0; low = 0; keep = 0 }; failed = λ m i. false; tops = λ s. 0; history = [] }
 
 no_structure_new : IsNewStructure no_structure
 no_structure_new = record { state = refl; epoch = refl; last = refl; entries = refl }
