@@ -107,7 +107,7 @@ pub put_steady : (a b : ℕ) (p : Owned) (t : TaskNo) (u : UnitName) (ops : List
     → IsSteady (a + 1) b (put u t c head place message logged p)
 put_steady a b p t u ops claims c head place message logged s has kept may logged_is enough =
     let m = u.member in
-    let now = may (λ k blocks n. []) in
+    let now = may (λ s k blocks n. []) in
     let log = log_in m p.logs in
     let structure = structure_in c.structure p.structures in
     let y = with_put c message (next_id structure) (task_at m t p.managers) in
