@@ -109,12 +109,19 @@ fn logs_in_hand(alloc: Global) -> Option<Logs<MemDisk>>
     Some(logs)
 }
 
-/// Its data set of four blocks, with a map for the epoch, from which the task has taken a block.
+/// A data set of four blocks that was never used.
+fn data_set(alloc: Global) -> Option<MemberDataSet<MemDisk>>
+    ensures { IfSome result (λ s. s.contents.blocks ≡ 4) }
+{
+    let device = MemDisk::new(alloc, 6_144, Vec::new(alloc)).ok()?;
+    MemberDataSet::new(alloc, DataSet::new(device, 512)).ok()
+}
+
+/// The data set of that member, with a map for the epoch, from which the task has taken a block.
 fn datasets(alloc: Global) -> Option<DataSets<MemDisk>>
     ensures { IfSome result (λ d. length d ≡ 1) }
 {
-    let device = MemDisk::new(alloc, 6_144, Vec::new(alloc)).ok()?;
-    let mut set = MemberDataSet::new(alloc, DataSet::new(device, 512)).ok()?;
+    let mut set = data_set(alloc)?;
     set.take(alloc, TaskNo::One, EPOCH, 1).ok()?;
     let mut sets = Vec::new(alloc);
     sets.push(set).ok()?;
