@@ -2,6 +2,7 @@
 
 ghost use Rattle.std.specs.Prelude.{◌≡◌, ◌<◌, length, IfSome};
 ghost use Rattle.qsg_num.specs.declared.seats.Member.TheVariants as member;
+ghost use Rattle.qsg_disk_mem.specs.Mem.{cells_in};
 ghost use Rattle.qsg_logs.specs.Kept.{log_in};
 ghost use Rattle.qsg_logs.specs.Writers.{new_writer};
 
@@ -109,11 +110,16 @@ fn logs_in_hand(alloc: Global) -> Option<Logs<MemDisk>>
     Some(logs)
 }
 
-/// A data set of four blocks that was never used.
-fn data_set(alloc: Global) -> Option<MemberDataSet<MemDisk>>
-    ensures { IfSome result (λ s. s.contents.blocks ≡ 4) }
+/// A device for a data set of four blocks of 512 bytes.
+fn device(alloc: Global) -> Option<MemDisk>
+    ensures { IfSome result (λ d. length (cells_in d) ≡ 6144) }
 {
-    let device = MemDisk::new(alloc, 6_144, Vec::new(alloc)).ok()?;
+    MemDisk::new(alloc, 6_144, Vec::new(alloc)).ok()
+}
+
+/// That data set, which was never used.
+fn data_set(alloc: Global) -> Option<MemberDataSet<MemDisk>> {
+    let device = device(alloc)?;
     MemberDataSet::new(alloc, DataSet::new(device, 512)).ok()
 }
 
