@@ -1,8 +1,9 @@
 //! A small data set, with each call of it, and those of a group.
 
-ghost use Rattle.std.specs.Prelude.{◌≡◌, None, length, IfSome};
+ghost use Rattle.std.specs.Prelude.{◌≡◌, length, IfSome};
 ghost use Rattle.qsg_num.specs.declared.seats.Member.TheVariants as member;
 ghost use Rattle.qsg_num.specs.declared.seats.StructNo.TheVariants as structure;
+ghost use Rattle.qsg_disk_mem.specs.Mem.{cells_in};
 ghost use Rattle.qsg_datasets.specs.Kept.{HasSet};
 
 use super::*;
@@ -15,12 +16,26 @@ use std::test::Fail;
 
 const EPOCH: u32 = 3;
 
+/// Room for a header and four blocks of 512 bytes.
+fn device(alloc: Global) -> Option<MemDisk>
+    ensures { IfSome result (λ device. length (cells_in device) ≡ 6144) }
+{
+    MemDisk::new(alloc, 6_144, Vec::new(alloc)).ok()
+}
+
+fn data_set(alloc: Global) -> Option<DataSet<MemDisk>>
+    ensures { IfSome result (λ s. (s.block_size ≡ 512) × (s.blocks ≡ 4)) }
+{
+    let device = device(alloc)?;
+    Some(DataSet::new(device, 512))
+}
+
 /// Four blocks of 512 bytes, in a data set that was never used.
 fn four(alloc: Global) -> Option<MemberDataSet<MemDisk>>
     ensures { IfSome result (λ s. (s.contents.block_size ≡ 512) × (s.contents.blocks ≡ 4)) }
 {
-    let device = MemDisk::new(alloc, 6_144, Vec::new(alloc)).ok()?;
-    MemberDataSet::new(alloc, DataSet::new(device, 512)).ok()
+    let data_set = data_set(alloc)?;
+    MemberDataSet::new(alloc, data_set).ok()
 }
 
 /// The numbers of the blocks that a task has taken.
