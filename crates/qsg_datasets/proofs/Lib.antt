@@ -1,2 +1,4 @@
 pub mod Maps
 pub mod Rows
+pub mod Lookups
+pub mod Used

@@ -1,11 +1,11 @@
 -- the map of used blocks through the calls
-use Rattle.std.proofs.Common.{◌≡◌, ◌∙◌, ℕ, List, length, take, Bool, true, false, cond, ◌==◌, replicate, Option, None, Some, IfSome}
+use Rattle.std.proofs.Common.{◌≡◌, ◌∙◌, ap, ℕ, List, length, take, Bool, true, false, cond, ◌==◌, replicate, Option, None, Some, IfSome, unwrap_or}
 use Rattle.std.proofs.lemmas.List.{length-replicate}
 use Rattle.qsg_num.specs.declared.ids.Block.{Block}
 use Rattle.qsg_space.specs.Spaces.{marked, free_blocks}
 use Rattle.qsg_space.proofs.Marking.{length-marked}
 use Rattle.qsg_datasets.specs.declared.member_data_set.KeptMap.{KeptMap}
-use Rattle.qsg_datasets.specs.Kept.{used_by, freed_in, taken_in}
+use Rattle.qsg_datasets.specs.Kept.{used_by, freed_in, claimed_in, taken_in}
 
 -- the map is of so many blocks
 abbrev pub HasSize : ℕ → Option KeptMap → Type 0
@@ -29,3 +29,12 @@ size_freed epoch n bs (Some m) has = freed_either (m.epoch == epoch) n m (marked
 
 pub size_taken : (epoch n k : ℕ) (map : Option KeptMap) → HasSize n map → HasSize n (taken_in epoch k (used_by epoch n map))
 size_taken epoch n k map has = length-marked true (take k (free_blocks (used_by epoch n map))) (used_by epoch n map) ∙ size_used epoch n map has
+
+pub size_claimed : (n : ℕ) (bs : List Block) (map : Option KeptMap) → HasSize n map → HasSize n (claimed_in bs map)
+size_claimed n bs None has = tt
+size_claimed n bs (Some m) has = length-marked true bs m.used ∙ has
+
+-- a map that is found has the size, and so has a new one
+pub size_loaded : (n : ℕ) (found : Option (List Bool)) (free : List Bool) → free ≡ replicate n false → IfSome found (λ used. length used ≡ n) → length (unwrap_or found free) ≡ n
+size_loaded n None free is has = ap (λ (l : List Bool). length l) is ∙ length-replicate n false
+size_loaded n (Some used) free is has = has

@@ -1,5 +1,5 @@
 -- what the calls on the device of a data set do to what its member keeps
-use Rattle.std.specs.Prelude.{ℕ, ◌≡◌, ◌≤◌, ◌==◌, Bool, true, not, List, [], ◌∷◌, Some, None, replicate, false}
+use Rattle.std.specs.Prelude.{ℕ, ◌≡◌, ◌≤◌, ◌==◌, Bool, true, not, List, [], ◌∷◌, Some, None, length, replicate, false}
 use Rattle.qsg_disk.specs.Byte.{EachPair, IsCut as IsCutByte}
 use Rattle.qsg_dataset.specs.Contents.{IsSame, gate_value, IsSaved}
 use Rattle.qsg_datasets.specs.declared.member_data_set.Found.{Found}
@@ -23,6 +23,7 @@ pub record IsCut (old new : KeptSet) : Type 0 where
 pub record IsLoaded (epoch : ℕ) (found : Found) (old new : KeptSet) : Type 0 where
   pub used : List Bool
   pub map : new.map ≡ Some (record { epoch = epoch; used = used })
+  pub size : length used ≡ old.contents.blocks
   pub hands : new.hands ≡ old.hands
   pub contents : IsSame old.contents new.contents
   pub bytes : old.contents.tells ≡ true → new.contents.bytes ≡ old.contents.bytes
