@@ -1,5 +1,5 @@
 -- What holds between a work in progress and the blocks that it reads, writes or counts.
-use Rattle.std.specs.Prelude.{ℕ, ◌+◌, ◌*◌, ◌-◌, ◌<◌, ◌≤◌, ◌≡◌, ◌⊎◌, Bool, true, false, List, [], ◌∷◌, length, take, Option, Some, None, IfSome, if◌then◌else◌, nat_lt, option_map, min}
+use Rattle.std.specs.Prelude.{ℕ, ◌+◌, ◌*◌, ◌-◌, ◌<◌, ◌≤◌, ◌≡◌, ◌≢◌, ◌⊎◌, Bool, true, false, List, [], ◌∷◌, length, take, Option, Some, None, IfSome, if◌then◌else◌, nat_lt, option_map, min}
 use Rattle.std.specs.List.{AllByRecursion}
 use Rattle.qsg_num.specs.declared.seats.Member.{Member}
 use Rattle.qsg_num.specs.declared.seats.TaskNo.{TaskNo}
@@ -12,11 +12,11 @@ use Rattle.qsg_lists.specs.declared.parts.Place.TheVariants.{Offloaded}
 use Rattle.qsg_lists.specs.Entries.{entry_at}
 use Rattle.qsg_lists.specs.Structures.{is_active}
 use Rattle.qsg_dataset.specs.Headers.{spelling}
-use Rattle.qsg_dataset.specs.Contents.{rest_of, gate_of, IsShut, IsReady}
+use Rattle.qsg_dataset.specs.Contents.{rest_of, gate_of, gate_value, IsShut, IsReady}
 use Rattle.qsg_datasets.specs.declared.member_data_set.Hand.{Hand}
 use Rattle.qsg_datasets.specs.declared.member_data_set.KeptMap.{KeptMap}
 use Rattle.qsg_datasets.specs.Kept.{KeptSet, hand_of, used_in}
-use Rattle.qsg_blocks.specs.State.{Ground, AreTold, cells_at, body_at, blocks_for, lists, tally, listed, used_once}
+use Rattle.qsg_blocks.specs.State.{Ground, IsThere, AreTold, cells_at, body_at, blocks_for, lists, tally, listed, used_once}
 use Rattle.qsg_blocks.specs.Laws.{IsPast, IsSafe, IsMapTrue, AreBlank}
 use Rattle.qsg_blocks.specs.Changes.{Change}
 use Rattle.qsg_blocks.specs.Changes.Change.{Takes, GivesBack, Writes, PutsOutside, RestoresOutside, Crashes, Stops, Maps, Saves, Starts}
@@ -59,6 +59,7 @@ pub record Writer : Type 0 where
 
 -- over every device: the hand has as many blocks as the body needs
 pub record FitsHand (w : Writer) (set : KeptSet) : Type 0 where
+  pub there : IsThere set
   pub epoch : (hand_of w.task set).epoch ≡ w.epoch
   pub enough : length (hand_of w.task set).blocks ≡ blocks_for set.contents.block_size (length w.body)
 
@@ -93,12 +94,17 @@ abbrev pub epoch_of_map : Option KeptMap → Option ℕ
 epoch_of_map map = option_map (λ (x : KeptMap). x.epoch) map
 
 -- a START: the epoch of the map that it has made of the structure, if it has; up to which id it has looked at
--- entries, None once it has looked at all; and how far the gate is: 1 once it reads 0, 2 once it is shut
+-- entries, None once it has looked at all; and how far the gate is: 0 while it is open, 1 once it reads 0, 2 once it is
+-- shut
 pub record Starter : Type 0 where
   pub owner : Member
   pub epoch : Option ℕ
   pub place : Option ℕ
   pub shuts : ℕ
+
+-- how far the gate is when a START has read it
+abbrev pub shuts_for : Bool → ℕ
+shuts_for gate_open = if gate_open then 0 else 1
 
 -- In an active structure of the map's epoch, the map uses exactly the blocks that entries up to the place list. In one
 -- of another epoch no entry lists the owner's blocks.
@@ -109,6 +115,7 @@ pub record FitsStart (w : Starter) (g : Ground) : Type 0 where
   pub made : is_active g.structure.state ≡ true → w.epoch ≡ Some g.structure.epoch → (b : Block) →
       used_once (used_in g.structure.epoch (g.sets w.owner)) b ≡ tally (lists_to w.place w.owner b) g.structure.entries
   pub gone : is_active g.structure.state ≡ true → (w.epoch ≡ Some g.structure.epoch → ⊥) → (b : Block) → listed w.owner b g.structure.entries ≡ 0
+  pub opened : w.shuts ≡ 0 → gate_value (g.sets w.owner).contents.bytes ≢ 0
   pub reads : 1 ≤ w.shuts → values (gate_of (g.sets w.owner).contents.bytes) ≡ 0 ∷ []
   pub shut : 2 ≤ w.shuts → IsShut (g.sets w.owner).contents.bytes
 

@@ -13,7 +13,7 @@ ghost use Rattle.qsg_lists.specs.declared.parts.Place.TheVariants.{Offloaded};
 ghost use Rattle.qsg_lists.specs.Entries.{entry_at, is_above, is_owned};
 ghost use Rattle.qsg_lists.specs.Structures.{is_active};
 ghost use Rattle.qsg_space.specs.Spaces.{free_count};
-ghost use Rattle.qsg_dataset.specs.Contents.{block_bytes, gate_value};
+ghost use Rattle.qsg_dataset.specs.Contents.{block_bytes};
 ghost use Rattle.qsg_dataset.specs.Steps.{SaveStep, ShutStep, Writes as WritesBytes};
 ghost use Rattle.qsg_datasets.specs.declared.member_data_set.KeptMap.{KeptMap};
 ghost use Rattle.qsg_datasets.specs.declared.member_data_set.Found.{Found};
@@ -23,7 +23,7 @@ ghost use Rattle.qsg_manager.specs.Views.{body_of};
 ghost use Rattle.qsg_blocks.specs.State.{Ground, IsThere, AreTold, stands, body_at, outside_of, blocks_for};
 ghost use Rattle.qsg_blocks.specs.Laws.{AreBlank, IsSafePlace, IsFitting, Laws};
 ghost use Rattle.qsg_blocks.specs.Changes.{Change, MayWrite, MaySave, MaySync, IsMade, with_set, with_post, ended, blocks_of};
-ghost use Rattle.qsg_blocks.specs.Works.{Reader, FitsRead, Writer, FitsHand, FitsWrite, IsOthers, Starter, FitsStart, IsOtherMembers, Stopper, FitsStop};
+ghost use Rattle.qsg_blocks.specs.Works.{Reader, FitsRead, Writer, FitsHand, FitsWrite, IsOthers, Starter, FitsStart, IsOtherMembers, shuts_for, Stopper, FitsStop};
 
 /// What was read of the body of an entry is its front, as long as the entry stands.
 pub fn every_change_keeps_readers()
@@ -77,12 +77,13 @@ pub fn every_change_keeps_starters()
 pub fn a_starter_counts_blocks()
     ensures loads { (g : Ground) (m : Member) (found : Found) (set : KeptSet) → AreTold g.sets → IsFitting g → Laws g → (g.posts m).up ≡ false → IsThere (g.sets m) →
         is_active g.structure.state ≡ true → g.structure.epoch < 2 ^ 32 → IsLoaded g.structure.epoch found (g.sets m) set → found.has_map ≡ true →
-        FitsStart (record { owner = m; epoch = Some g.structure.epoch; place = None; shuts = 0 }) (with_set m set g) }
-    ensures blank { (g : Ground) (m : Member) (found : Found) (set : KeptSet) → AreTold g.sets → Laws g → (g.posts m).up ≡ false → IsThere (g.sets m) →
+        FitsStart (record { owner = m; epoch = Some g.structure.epoch; place = None; shuts = shuts_for found.gate_open }) (with_set m set g) }
+    ensures blank { (g : Ground) (m : Member) (found : Found) (set : KeptSet) → AreTold g.sets → Laws g → (g.posts m).up ≡ false → IsThere (g.sets m) → 1 ≤ length (g.sets m).contents.bytes →
         is_active g.structure.state ≡ true → IsLoaded g.structure.epoch found (g.sets m) set → found.has_map ≡ false →
-        FitsStart (record { owner = m; epoch = Some g.structure.epoch; place = Some 0; shuts = 0 }) (with_set m set g) }
-    ensures drops { (g : Ground) (m : Member) (set : KeptSet) → (g.posts m).up ≡ false → is_active g.structure.state ≡ false → set.map ≡ None →
-        FitsStart (record { owner = m; epoch = None; place = None; shuts = 0 }) (with_set m set g) }
+        FitsStart (record { owner = m; epoch = Some g.structure.epoch; place = Some 0; shuts = shuts_for found.gate_open }) (with_set m set g) }
+    ensures drops { (g : Ground) (m : Member) (epoch : ℕ) (found : Found) (loaded set : KeptSet) → AreTold g.sets → (g.posts m).up ≡ false → IsThere (g.sets m) → 1 ≤ length (g.sets m).contents.bytes →
+        is_active g.structure.state ≡ false → IsLoaded epoch found (g.sets m) loaded → set.contents ≡ loaded.contents → set.map ≡ None →
+        FitsStart (record { owner = m; epoch = None; place = None; shuts = shuts_for found.gate_open }) (with_set m set g) }
     ensures claims { (w : Starter) (g : Ground) (place : ℕ) (e : Entry) (blocks : List Block) (n : ℕ) → IsFitting g → Laws g → FitsStart w g → w.place ≡ Some place →
         find (is_above (record { number = place })) g.structure.entries ≡ Some e → e.place ≡ Offloaded w.owner blocks n →
         FitsStart (record w { place = Some e.id.number }) (with_set w.owner (claimed blocks (g.sets w.owner)) g) }
@@ -94,13 +95,12 @@ pub fn a_starter_counts_blocks()
     ensures loses { (w : Starter) (g : Ground) → FitsStart w g → (is_active g.structure.state ≡ true → w.epoch ≢ Some g.structure.epoch) → FitsStart (record w { place = None }) g }
 {}
 
-/// A START shuts its gate in two steps, the first of which it makes only where the gate doesn't read 0. Then it is
-/// ready.
+/// A START shuts its gate in two steps, the first of which it makes only where the gate doesn't read 0: whether that
+/// step succeeds or not, the header may stand as it leaves it. Then it is ready.
 pub fn a_starter_shuts_the_gate()
-    ensures may { (g : Ground) (m : Member) (result : Result (Unit {0}) Failed) (set : KeptSet) → AreTold g.sets → IsFitting g → Laws g → (g.posts m).up ≡ false → IsThere (g.sets m) →
-        IsStorageSame (g.sets m) set → ShutStep 1 result (g.sets m).contents.bytes set.contents.bytes → MaySave g m set }
-    ensures reads { (w : Starter) (g : Ground) → FitsStart w g → 1 ≤ length (g.sets w.owner).contents.bytes → gate_value (g.sets w.owner).contents.bytes ≡ 0 → w.shuts ≡ 0 → FitsStart (record w { shuts = 1 }) g }
-    ensures writes { (w : Starter) (g : Ground) (one : Unit {0}) (set : KeptSet) → FitsStart w g → w.shuts ≡ 0 → IsStorageSame (g.sets w.owner) set →
+    ensures may { (w : Starter) (g : Ground) (result : Result (Unit {0}) Failed) (set : KeptSet) → AreTold g.sets → Laws g → FitsStart w g → IsThere (g.sets w.owner) → w.shuts ≡ 0 →
+        IsStorageSame (g.sets w.owner) set → ShutStep 1 result (g.sets w.owner).contents.bytes set.contents.bytes → MaySave g w.owner set }
+    ensures writes { (w : Starter) (g : Ground) (one : Unit {0}) (set : KeptSet) → FitsStart w g → IsStorageSame (g.sets w.owner) set →
         ShutStep {E = Failed} 1 (Ok one) (g.sets w.owner).contents.bytes set.contents.bytes → FitsStart (record w { shuts = 1 }) (with_set w.owner set g) }
     ensures syncs { (w : Starter) (g : Ground) (one : Unit {0}) (set : KeptSet) → FitsStart w g → w.shuts ≡ 1 → IsStorageSame (g.sets w.owner) set →
         ShutStep {E = Failed} 2 (Ok one) (g.sets w.owner).contents.bytes set.contents.bytes → FitsStart (record w { shuts = 2 }) (with_set w.owner set g) }

@@ -1,0 +1,10 @@
+pub mod Counting
+pub mod Fitting
+pub mod Standing
+pub mod Counted
+pub mod Kept
+pub mod Bytes
+pub mod Bodies
+pub mod Down
+pub mod Headers
+pub mod Whole

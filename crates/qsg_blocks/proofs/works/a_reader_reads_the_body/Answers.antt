@@ -1,0 +1,10 @@
+use Rattle.qsg_blocks.proofs.works.a_reader_reads_the_body.Goals as goal
+
+pub returns-clause-begins : goal.returns-clause-begins
+returns-clause-begins c = ?
+
+pub returns-clause-goes_on : goal.returns-clause-goes_on
+returns-clause-goes_on c = ?
+
+pub returns-clause-whole : goal.returns-clause-whole
+returns-clause-whole c = ?
