@@ -33,7 +33,7 @@ use Rattle.qsg_blocks.specs.Changes.{with_structure, with_set, with_post, ended,
 use Rattle.qsg_blocks.specs.Changes.Change.{Rests, Takes, GivesBack, Writes, Syncs, Reads, PutsInside, PutsOutside, Revises, Forgets, Crashes, Stops, Maps, Saves, Starts, Loses, Begins, RestoresInside, RestoresOutside, Ends, Abandons}
 use Rattle.qsg_blocks.proofs.Counting.{used-one, used-blank, used-marked, given-once, given-within, holds-blank, holds-now, holds-other, reserved-set, reserved-at, reserved-none, hands-set, hands-at, share, tally-push, tally-revise, tally-kept, tally-at, lists-own, lists-other}
 use Rattle.qsg_blocks.proofs.Fitting.{set_at, set_other, task_within, length-used}
-use Rattle.qsg_blocks.proofs.Standing.{stands-down, stands-up, stands-active, is_now_active, stands-others, stands-own, stands-newer, counts-up, counts-down, up-counts, down-counts, counts-one, counts_if, told_true, told_false, past_before, past_low, unlost_blank, down_blank, blank_reserved, idle_hands, early_hands, used_in-now, used_in-old, used_in-none, used_in-same, used-freed_in}
+use Rattle.qsg_blocks.proofs.Standing.{stands-down, stands-up, stands-active, is_now_active, stands-others, stands-own, stands-newer, counts-up, counts-down, up-counts, down-counts, counts-one, counts_if, told_true, told_false, past_before, past_low, unlost_blank, down_blank, still_blank, blank_reserved, idle_hands, early_hands, used_in-now, used_in-old, used_in-none, used_in-same, used-freed_in}
 
 -- ---- what the law says of owners that stand, and of any
 
@@ -305,7 +305,7 @@ counted_stays g _ (Crashes _ m set may) told fits laws = post_counted g m (ended
     (subst (λ (x : KeptSet). IsCounted g.structure (ended (g.posts m)) x m) (sym (set_at m set g.sets)) (down_counted g m (ended (g.posts m)) set refl (cut_blank (g.sets m) set may.cut) laws))
     (λ k differ. subst (λ (x : KeptSet). IsCounted g.structure (g.posts k) x k) (sym (set_other m set g.sets k differ)) (laws.counted k))
 counted_stays g _ (Stops _ m may) told fits laws = post_counted g m (ended (g.posts m)) g.sets (down_counted g m (ended (g.posts m)) (g.sets m) refl may.blank laws) (λ k differ. laws.counted k)
-counted_stays g _ (Maps _ m set may) told fits laws = set_counted g m set g.structure (down_counted g m (g.posts m) set may.down may.blank laws) (λ k differ. laws.counted k)
+counted_stays g _ (Maps _ m set may) told fits laws = set_counted g m set g.structure (down_counted g m (g.posts m) set may.down (still_blank m (g.posts m) g.structure (g.sets m) set may.down may.hands (laws.timely m)) laws) (λ k differ. laws.counted k)
 counted_stays g _ (Saves _ m set may) told fits laws = storage_counted g m set may.same laws
 counted_stays g _ (Starts _ m may) told fits laws = post_counted g m (next (g.posts m)) g.sets (started_counted g m may told laws) (λ k differ. laws.counted k)
 counted_stays g _ (Loses _ may) told fits laws = lost_counted g may.active laws

@@ -60,7 +60,7 @@ share_kept m v f shares keeps e = by (f e) refl
 pub up_differ : (g : Ground) (m k : Member) → (g.posts k).up ≡ true → (g.posts m).up ≡ false → member_number m ≡ member_number k → ⊥
 up_differ g m k up down same = let e : (g.posts k).up ≡ false = subst (λ (x : Member). (g.posts x).up ≡ false) (same_member m k same) down in absurd cc
 
-unrecovered : (st : State) → is_active st ≡ true → is_recovering st ≡ true → ⊥
+pub unrecovered : (st : State) → is_active st ≡ true → is_recovering st ≡ true → ⊥
 unrecovered Active active recovering = cc
 unrecovered Failed active recovering = cc
 unrecovered (InRecover by i) active recovering = cc

@@ -232,6 +232,10 @@ fits_cut g m set cut fits = fits_set g m set (same_sizes (g.sets m) set cut.cont
     (λ kept. kept_by (g.sets m) set (same_sizes (g.sets m) set cut.contents) (ap length cut.hands) (subst (λ o. IfSome o (λ (x : KeptMap). length x.used ≡ (g.sets m).contents.blocks)) (sym cut.map) tt) kept)
     (subst (HandsWithin (g.sets m).contents.blocks) (sym cut.hands) (tt, (tt, (tt, (tt, (tt, tt)))))) fits
 
+hands_mapped : (g : Ground) (m : Member) (set : KeptSet) → (set.hands ≡ (g.sets m).hands) ⊎ AreBlank set.hands → IsFitting g → HandsWithin (g.sets m).contents.blocks set.hands
+hands_mapped g m set (inl same) fits = subst (HandsWithin (g.sets m).contents.blocks) (sym same) (fits.hands m)
+hands_mapped g m set (inr blank) fits = blanks_within (g.sets m).contents.blocks set.hands blank
+
 pub fitting_stays : (g h : Ground) → Change g h → IsFitting g → IsFitting h
 fitting_stays g _ (Rests _) fits = fits
 fitting_stays g _ (Takes _ m t epoch n may) fits = fits_taken g m t epoch n (fits.there m may.up) fits
@@ -249,7 +253,7 @@ fitting_stays g _ (Forgets _ m e bs n may) fits =
     fits_structure (with_set m (freed g.structure.epoch bs (g.sets m)) g) _ (places-revise (FitsPlace (with_set m (freed g.structure.epoch bs (g.sets m)) g).sets) e.id deleted deleted_put g.structure.entries after.places) after
 fitting_stays g _ (Crashes _ m set may) fits = fits_post (with_set m set g) m _ (λ up. absurd cc) (fits_cut g m set may.cut fits)
 fitting_stays g _ (Stops _ m may) fits = fits_post g m _ (λ up. absurd cc) fits
-fitting_stays g _ (Maps _ m set may) fits = fits_set g m set (same_sizes (g.sets m) set may.same) (λ kept. may.kept) (blanks_within (g.sets m).contents.blocks set.hands may.blank) fits
+fitting_stays g _ (Maps _ m set may) fits = fits_set g m set (same_sizes (g.sets m) set may.same) (λ kept. may.kept) (hands_mapped g m set may.hands fits) fits
 fitting_stays g _ (Saves _ m set may) fits = fits_storage g m set may.same fits
 fitting_stays g _ (Starts _ m may) fits = fits_post g m _ (λ up. may.there) fits
 fitting_stays g _ (Loses _ may) fits = fits_structure g _ tt fits

@@ -34,7 +34,7 @@ use Rattle.qsg_blocks.specs.Changes.{with_structure, with_set, with_post, ended,
 use Rattle.qsg_blocks.specs.Changes.Change.{Rests, Takes, GivesBack, Writes, Syncs, Reads, PutsInside, PutsOutside, Revises, Forgets, Crashes, Stops, Maps, Saves, Starts, Loses, Begins, RestoresInside, RestoresOutside, Ends, Abandons}
 use Rattle.qsg_blocks.proofs.Counting.{hands-mono, hands-set}
 use Rattle.qsg_blocks.proofs.Fitting.{set_at, set_other}
-use Rattle.qsg_blocks.proofs.Standing.{stands-down, stands-up, stands-active, is_now_active, stands-others, stands-own, told_true, told_false, true_told, past_low, past_before, past_up, before_past, unlost_blank, down_blank}
+use Rattle.qsg_blocks.proofs.Standing.{stands-down, stands-up, stands-active, is_now_active, stands-others, stands-own, told_true, told_false, true_told, past_low, past_before, past_up, before_past, unlost_blank, down_blank, still_blank}
 use Rattle.qsg_blocks.proofs.Counted.{listed-inside, listed-outside, listed-revised}
 
 -- ---- timely
@@ -187,7 +187,7 @@ timely_stays g _ (Crashes _ m set may) told laws = post_timely g m (ended (g.pos
     (subst (λ (x : KeptSet). IsTimely m (ended (g.posts m)) g.structure x) (sym (set_at m set g.sets)) (blank_timely m (ended (g.posts m)) g.structure set (cut_blank (g.sets m) set may.cut) (λ up. no_up false refl up)))
     (λ k differ. subst (λ (x : KeptSet). IsTimely k (g.posts k) g.structure x) (sym (set_other m set g.sets k differ)) (laws.timely k))
 timely_stays g _ (Stops _ m may) told laws = post_timely g m (ended (g.posts m)) g.sets (blank_timely m (ended (g.posts m)) g.structure (g.sets m) may.blank (λ up. no_up false refl up)) (λ k differ. laws.timely k)
-timely_stays g _ (Maps _ m set may) told laws = set_timely g m set g.structure (blank_timely m (g.posts m) g.structure set may.blank (λ up. no_up (g.posts m).up may.down up)) (λ k differ. laws.timely k)
+timely_stays g _ (Maps _ m set may) told laws = set_timely g m set g.structure (blank_timely m (g.posts m) g.structure set (still_blank m (g.posts m) g.structure (g.sets m) set may.down may.hands (laws.timely m)) (λ up. no_up (g.posts m).up may.down up)) (λ k differ. laws.timely k)
 timely_stays g _ (Saves _ m set may) told laws = storage_timely g m set may.same laws
 timely_stays g _ (Starts _ m may) told laws = post_timely g m (next (g.posts m)) g.sets (started_timely g m may told laws) (λ k differ. laws.timely k)
 timely_stays g _ (Loses _ may) told laws = lost_timely g may.active laws
@@ -276,14 +276,14 @@ restored_fresh g e may fresh = record {
   topped = all_push (λ (x : Entry). x.id.number ≤ (id_at g.structure.epoch g.structure.last).number) g.structure.entries e fresh.topped (let top = may.topped in omega (arith, top));
 }
 
-keeps_id : (f : Entry → Option Entry) → KeepsPlaces f → KeepsId f
+pub keeps_id : (f : Entry → Option Entry) → KeepsPlaces f → KeepsId f
 keeps_id f keeps e = by (f e) refl
   where
     by : (o : Option Entry) → f e ≡ o → IfSome o (λ (x : Entry). x.id ≡ e.id)
     by None is = tt
     by (Some x) is = ap (λ (y : Entry). y.id) (keeps.stays e x is)
 
-deleted_id : KeepsId deleted
+pub deleted_id : KeepsId deleted
 deleted_id e = tt
 
 revised_fresh : (s : ListStructure) (id : EntryId) (f : Entry → Option Entry) → KeepsId f → IsFresh s → IsFresh (record s { entries = revise id f s.entries })

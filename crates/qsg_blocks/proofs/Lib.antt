@@ -8,3 +8,9 @@ pub mod Bodies
 pub mod Down
 pub mod Headers
 pub mod Whole
+pub mod Reading
+pub mod Writing
+pub mod Written
+pub mod Starting
+pub mod Loading
+pub mod Stopping

@@ -138,6 +138,10 @@ down_blank m post s set down timely = hands-mono _ IsBlank by set.hands timely.h
     by h (inl blank) = blank
     by h (inr held) = let up = held.up in absurd cc
 
+pub still_blank : (m : Member) (post : Post) (s : ListStructure) (old new : KeptSet) → post.up ≡ false → (new.hands ≡ old.hands) ⊎ AreBlank new.hands → IsTimely m post s old → AreBlank new.hands
+still_blank m post s old new down (inl same) timely = subst AreBlank (sym same) (down_blank m post s old down timely)
+still_blank m post s old new down (inr blank) timely = blank
+
 pub blank_reserved : (epoch : ℕ) (b : Block) (hands : List Hand) → AreBlank hands → reserved epoch b hands ≡ 0
 blank_reserved epoch b hands blank = reserved-none epoch b hands (hands-mono IsBlank (λ (h : Hand). holds epoch b h ≡ 0) (λ h is. holds-blank epoch b h is) hands blank)
 

@@ -132,16 +132,16 @@ pub record MayStop (g : Ground) (m : Member) : Type 0 where
   pub up : (g.posts m).up ≡ true
   pub blank : AreBlank (g.sets m).hands
 
--- A member that is down makes, claims or drops its map; no byte changes.
+-- a member that is down makes, claims or drops its map, and its tasks take no blocks; no byte changes
 pub record MayMap (g : Ground) (m : Member) (set : KeptSet) : Type 0 where
   pub down : (g.posts m).up ≡ false
   pub there : IsThere (g.sets m)
   pub kept : IsKept set
-  pub blank : AreBlank set.hands
+  pub hands : (set.hands ≡ (g.sets m).hands) ⊎ AreBlank set.hands
   pub same : IsSame (g.sets m).contents set.contents
   pub bytes : (g.sets m).contents.tells ≡ true → set.contents.bytes ≡ (g.sets m).contents.bytes
 
--- A member that is down writes in its header, whether it succeeds or not.
+-- a member that is down writes in its header, whether it succeeds or not, and the header may stand as that leaves it
 pub record MaySave (g : Ground) (m : Member) (set : KeptSet) : Type 0 where
   pub down : (g.posts m).up ≡ false
   pub there : IsThere (g.sets m)

@@ -1,18 +1,20 @@
 //! Every change keeps the laws, and what follows from them.
 
-ghost use Rattle.std.specs.Prelude.{◌≡◌, ◌+◌, ◌≤◌, ℕ, [], None, map, true, false};
+ghost use Rattle.std.specs.Prelude.{◌≡◌, ◌+◌, ◌≤◌, ℕ, [], Bool, None, Some, map, true, false};
 ghost use Rattle.std.specs.List.{AllByRecursion};
 ghost use Rattle.qsg_num.specs.declared.seats.Member.{Member};
 ghost use Rattle.qsg_num.specs.declared.seats.StructNo.{StructNo};
 ghost use Rattle.qsg_num.specs.declared.ids.Block.{Block};
 ghost use Rattle.qsg_lists.specs.declared.parts.Entry.{Entry};
+ghost use Rattle.qsg_lists.specs.declared.parts.Mark.{Mark};
+ghost use Rattle.qsg_lists.specs.Settling.{marked, settled_entry};
 ghost use Rattle.qsg_lists.specs.declared.parts.State.TheVariants.{Active};
 ghost use Rattle.qsg_dataset.specs.Contents.{IsShut};
 ghost use Rattle.qsg_datasets.specs.Kept.{used_in};
 ghost use Rattle.qsg_manager.specs.Views.{body_of, held_of};
 ghost use Rattle.qsg_blocks.specs.State.{Ground, IsThere, AreTold, stands, outside_of, listed, reserved, used_once, free_once};
 ghost use Rattle.qsg_blocks.specs.Laws.{AreBlank, IsFitting, Laws};
-ghost use Rattle.qsg_blocks.specs.Changes.{Change};
+ghost use Rattle.qsg_blocks.specs.Changes.{KeepsPlaces, Change};
 
 /// The laws hold of an empty structure, while no member has a map or holds blocks, and no data set has a saved map.
 pub fn an_empty_structure_keeps_the_laws()
@@ -33,6 +35,13 @@ pub fn every_change_keeps_devices_telling()
 /// Where devices tell their bytes, each shared action leaves a state that obeys the laws.
 pub fn every_change_keeps_the_laws()
     ensures { (g h : Ground) → Change g h → AreTold g.sets → IsFitting g → Laws g → Laws h }
+{}
+
+/// A change of a mark keeps an entry's place, and so does the end of a unit, which deletes only entries with their bodies
+/// inside.
+pub fn changes_of_marks_keep_places()
+    ensures marks { (mark : Mark) → KeepsPlaces (λ e. Some (marked mark e)) }
+    ensures settles { (commits : Bool) → KeepsPlaces (settled_entry commits) }
 {}
 
 /// No block is used twice: by two entries, an entry and a task, two tasks, or one of these while its owner's map has it

@@ -12,9 +12,9 @@ mod laws;
 mod works;
 
 pub use laws::{
-    an_empty_structure_keeps_the_laws, every_change_keeps_blocks_fitting,
-    every_change_keeps_devices_telling, every_change_keeps_the_laws, every_change_leaves_bodies,
-    no_block_has_two_users,
+    an_empty_structure_keeps_the_laws, changes_of_marks_keep_places,
+    every_change_keeps_blocks_fitting, every_change_keeps_devices_telling,
+    every_change_keeps_the_laws, every_change_leaves_bodies, no_block_has_two_users,
 };
 pub use works::{
     a_reader_reads_the_body, a_starter_counts_blocks, a_starter_shuts_the_gate,

@@ -45,7 +45,7 @@ pub fn a_reader_reads_the_body()
 /// What a task has written into its blocks stays, and so does what it made safe; over every device it has its blocks.
 pub fn every_change_keeps_writers()
     ensures written { (w : Writer) (g h : Ground) (c : Change g h) → IsOthers w.owner w.task g h c → AreTold g.sets → IsFitting g → Laws g → FitsWrite w g → FitsWrite w h }
-    ensures hand { (w : Writer) (g h : Ground) (c : Change g h) → IsOthers w.owner w.task g h c → IsFitting g → FitsHand w (g.sets w.owner) → FitsHand w (h.sets w.owner) }
+    ensures hand { (w : Writer) (g h : Ground) (c : Change g h) → IsOthers w.owner w.task g h c → FitsHand w (g.sets w.owner) → FitsHand w (h.sets w.owner) }
 {}
 
 /// A writer takes as many blocks as its body needs, writes one after another and syncs; then its blocks read as the
@@ -59,7 +59,7 @@ pub fn a_writer_writes_the_body()
         piece ≡ take (g.sets w.owner).contents.block_size (drop (w.count * (g.sets w.owner).contents.block_size) w.body) →
         MayWrite g w.owner w.task b (length piece) set → values (block_bytes set.contents b.number (length piece)) ≡ piece →
         FitsWrite (record w { count = w.count + 1 }) (with_set w.owner set g) }
-    ensures syncs { (w : Writer) (g : Ground) (set : KeptSet) → AreTold g.sets → IsFitting g → FitsWrite w g → IsStorageSame (g.sets w.owner) set →
+    ensures syncs { (w : Writer) (g : Ground) (set : KeptSet) → FitsWrite w g → IsStorageSame (g.sets w.owner) set →
         set.contents.bytes ≡ map synced (g.sets w.owner).contents.bytes →
         FitsWrite (record w { synced = true }) (with_set w.owner set g) }
     ensures whole { (w : Writer) (g : Ground) → IsKept (g.sets w.owner) → FitsWrite w g → w.epoch ≡ g.structure.epoch → w.synced ≡ true → w.count ≡ length (blocks_of w.owner w.task g) →
@@ -98,7 +98,7 @@ pub fn a_starter_counts_blocks()
 /// A START shuts its gate in two steps, the first of which it makes only where the gate doesn't read 0: whether that
 /// step succeeds or not, the header may stand as it leaves it. Then it is ready.
 pub fn a_starter_shuts_the_gate()
-    ensures may { (w : Starter) (g : Ground) (result : Result (Unit {0}) Failed) (set : KeptSet) → AreTold g.sets → Laws g → FitsStart w g → IsThere (g.sets w.owner) → w.shuts ≡ 0 →
+    ensures may { (w : Starter) (g : Ground) (result : Result (Unit {0}) Failed) (set : KeptSet) → Laws g → FitsStart w g → IsThere (g.sets w.owner) → w.shuts ≡ 0 →
         IsStorageSame (g.sets w.owner) set → ShutStep 1 result (g.sets w.owner).contents.bytes set.contents.bytes → MaySave g w.owner set }
     ensures writes { (w : Starter) (g : Ground) (one : Unit {0}) (set : KeptSet) → FitsStart w g → IsStorageSame (g.sets w.owner) set →
         ShutStep {E = Failed} 1 (Ok one) (g.sets w.owner).contents.bytes set.contents.bytes → FitsStart (record w { shuts = 1 }) (with_set w.owner set g) }
@@ -115,10 +115,10 @@ pub fn every_change_keeps_stoppers()
 /// A STOP begins with the map that the member has. Its steps save it, and whether they succeed or not, the header may
 /// stand as they leave it.
 pub fn a_stopper_saves_its_map()
-    ensures begins { (g : Ground) (m : Member) → AreTold g.sets → IsFitting g → Laws g → (g.posts m).up ≡ true → AreBlank (g.sets m).hands →
+    ensures begins { (g : Ground) (m : Member) → IsFitting g → Laws g → (g.posts m).up ≡ true → AreBlank (g.sets m).hands →
         (is_active g.structure.state ≡ false → stands g.structure.state m (g.posts m) ≡ false) →
         FitsStop (record { owner = m; steps = 0 }) (with_post m (ended (g.posts m)) g) }
-    ensures writes { (w : Stopper) (g : Ground) (kept : KeptMap) (result : Result (Unit {0}) Failed) (set : KeptSet) → AreTold g.sets → IsFitting g → Laws g → FitsStop w g → IsThere (g.sets w.owner) →
+    ensures writes { (w : Stopper) (g : Ground) (kept : KeptMap) (result : Result (Unit {0}) Failed) (set : KeptSet) → IsFitting g → FitsStop w g → IsThere (g.sets w.owner) →
         (g.sets w.owner).map ≡ Some kept → IsStorageSame (g.sets w.owner) set → (w.steps ≡ 0) ⊎ (w.steps ≡ 2) →
         SaveStep (w.steps + 1) kept.epoch kept.used result (g.sets w.owner).contents.bytes set.contents.bytes → MaySave g w.owner set }
     ensures goes_on { (w : Stopper) (g : Ground) (kept : KeptMap) (one : Unit {0}) (set : KeptSet) → FitsStop w g →
