@@ -1,6 +1,6 @@
 use Rattle.std.proofs.Common.{rules}
 use Rattle.std.proofs.lemmas.Result.{err_from_is_err_and}
-use Rattle.qsg_sysplex.specs.declared.devices.MakeFault.TheVariants as fault
+use Rattle.qsg_devices.specs.declared.making.MakeFault.TheVariants as fault
 use Rattle.qsg_sysplex.proofs.GivenBack.{carried}
 use Rattle.qsg_sysplex.proofs.Making.{made_new, incarnations_fit}
 use Rattle.qsg_sysplex.proofs.sysplex.Sysplex.make.Goals as goal

@@ -1,0 +1,5 @@
+pub mod Leaving
+pub mod Forgetting
+pub mod Pace
+pub mod Changing
+pub mod Grounds
