@@ -22,7 +22,7 @@ use Rattle.qsg_space.specs.Spaces.{has_block}
 use Rattle.qsg_dataset.specs.Contents.{Contents}
 use Rattle.qsg_datasets.specs.declared.member_data_set.Hand.{Hand}
 use Rattle.qsg_datasets.specs.Kept.{KeptSet, no_hand, hand_of, with_hand, freed}
-use Rattle.qsg_manager.specs.Views.{Outside, body_of, is_outside, message_of, held_of}
+use Rattle.qsg_manager.specs.Views.{Bodies, Outside, body_of, is_outside, message_of, held_of}
 use Rattle.qsg_group.specs.Tables.{at_member}
 use Rattle.qsg_group.proofs.Tables.{every_member}
 use Rattle.qsg_blocks.specs.State.{Post, Ground, IsThere, AreTold, stands, cells_at, outside_of, uses, lists, listed, reserved}
@@ -179,6 +179,16 @@ bodies_before g h change told fits laws = body_parts g.sets h.sets g.structure.e
 pub bodies_after : (g h : Ground) → Change g h → AreTold g.sets → IsFitting g → Laws g → AllByRecursion (λ (e : Entry). body_of (outside_of h.sets) e.place ≡ body_of (outside_of g.sets) e.place) h.structure.entries
 bodies_after g h change told fits laws = body_parts g.sets h.sets h.structure.entries (places_after g h change told (places_stay g h change told fits laws))
 
-pub same_held : (old new : Outside) (s : StructNo) (es : List Entry) → AllByRecursion (λ (e : Entry). body_of new e.place ≡ body_of old e.place) es → map (held_of new s) es ≡ map (held_of old s) es
+-- so entries have the messages that they had
+pub same_held : (old new : Outside) (s : StructNo) (es : List Entry) → AllByRecursion (λ (e : Entry). body_of (new s) e.place ≡ body_of (old s) e.place) es → map (held_of new s) es ≡ map (held_of old s) es
 same_held old new s [] all = refl
 same_held old new s (e ∷ es) all = λ i. record { message = message_of s e.id e.head (all.0 i); mark = e.mark; outside = is_outside e.place } ∷ same_held old new s es all.1 i
+
+bodies_by : (a b c d : Bodies) (es : List Entry) → c ≡ a → d ≡ b → AllByRecursion (λ (e : Entry). body_of b e.place ≡ body_of a e.place) es → AllByRecursion (λ (e : Entry). body_of d e.place ≡ body_of c e.place) es
+bodies_by a b c d es was is all = subst (λ y. AllByRecursion (λ (e : Entry). body_of d e.place ≡ body_of y e.place) es) (sym was) (subst (λ x. AllByRecursion (λ (e : Entry). body_of x e.place ≡ body_of a e.place) es) (sym is) all)
+
+pub held_before : (old new : Outside) (s : StructNo) (g h : Ground) → Change g h → AreTold g.sets → IsFitting g → Laws g → old s ≡ outside_of g.sets → new s ≡ outside_of h.sets → map (held_of new s) g.structure.entries ≡ map (held_of old s) g.structure.entries
+held_before old new s g h change told fits laws was is = same_held old new s g.structure.entries (bodies_by (outside_of g.sets) (outside_of h.sets) (old s) (new s) g.structure.entries was is (bodies_before g h change told fits laws))
+
+pub held_after : (old new : Outside) (s : StructNo) (g h : Ground) → Change g h → AreTold g.sets → IsFitting g → Laws g → old s ≡ outside_of g.sets → new s ≡ outside_of h.sets → map (held_of new s) h.structure.entries ≡ map (held_of old s) h.structure.entries
+held_after old new s g h change told fits laws was is = same_held old new s h.structure.entries (bodies_by (outside_of g.sets) (outside_of h.sets) (old s) (new s) h.structure.entries was is (bodies_after g h change told fits laws))

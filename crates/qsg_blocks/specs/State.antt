@@ -14,7 +14,7 @@ use Rattle.qsg_space.specs.Spaces.{is_used, is_free}
 use Rattle.qsg_dataset.specs.Contents.{Contents, block_bytes}
 use Rattle.qsg_datasets.specs.declared.member_data_set.Hand.{Hand}
 use Rattle.qsg_datasets.specs.Kept.{KeptSet, stands as map_stands, used_in}
-use Rattle.qsg_manager.specs.Views.{Outside}
+use Rattle.qsg_manager.specs.Views.{Bodies}
 
 -- whether a member is up, and its last incarnation
 pub record Post : Type 0 where
@@ -54,7 +54,7 @@ abbrev pub body_at : Contents → List Block → ℕ → List ℕ
 body_at c blocks n = values (cells_at c blocks n)
 
 -- what the data sets read, as the machine of messages sees it
-abbrev pub outside_of : (Member → KeptSet) → Outside
+abbrev pub outside_of : (Member → KeptSet) → Bodies
 outside_of sets = λ owner blocks length. body_at (sets owner).contents blocks length
 
 -- how many blocks a body of so many bytes takes

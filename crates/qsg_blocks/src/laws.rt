@@ -11,7 +11,7 @@ ghost use Rattle.qsg_lists.specs.Settling.{marked, settled_entry};
 ghost use Rattle.qsg_lists.specs.declared.parts.State.TheVariants.{Active};
 ghost use Rattle.qsg_dataset.specs.Contents.{IsShut};
 ghost use Rattle.qsg_datasets.specs.Kept.{used_in};
-ghost use Rattle.qsg_manager.specs.Views.{body_of, held_of};
+ghost use Rattle.qsg_manager.specs.Views.{Outside, body_of, held_of};
 ghost use Rattle.qsg_blocks.specs.State.{Ground, IsThere, AreTold, stands, outside_of, listed, reserved, used_once, free_once};
 ghost use Rattle.qsg_blocks.specs.Laws.{AreBlank, IsFitting, Laws};
 ghost use Rattle.qsg_blocks.specs.Changes.{KeepsPlaces, Change};
@@ -59,8 +59,8 @@ pub fn every_change_leaves_bodies()
         AllByRecursion (λ (e : Entry). body_of (outside_of h.sets) e.place ≡ body_of (outside_of g.sets) e.place) g.structure.entries }
     ensures after { (g h : Ground) → Change g h → AreTold g.sets → IsFitting g → Laws g →
         AllByRecursion (λ (e : Entry). body_of (outside_of h.sets) e.place ≡ body_of (outside_of g.sets) e.place) h.structure.entries }
-    ensures held_before { (s : StructNo) (g h : Ground) → Change g h → AreTold g.sets → IsFitting g → Laws g →
-        map (held_of (outside_of h.sets) s) g.structure.entries ≡ map (held_of (outside_of g.sets) s) g.structure.entries }
-    ensures held_after { (s : StructNo) (g h : Ground) → Change g h → AreTold g.sets → IsFitting g → Laws g →
-        map (held_of (outside_of h.sets) s) h.structure.entries ≡ map (held_of (outside_of g.sets) s) h.structure.entries }
+    ensures held_before { (old new : Outside) (s : StructNo) (g h : Ground) → Change g h → AreTold g.sets → IsFitting g → Laws g →
+        old s ≡ outside_of g.sets → new s ≡ outside_of h.sets → map (held_of new s) g.structure.entries ≡ map (held_of old s) g.structure.entries }
+    ensures held_after { (old new : Outside) (s : StructNo) (g h : Ground) → Change g h → AreTold g.sets → IsFitting g → Laws g →
+        old s ≡ outside_of g.sets → new s ≡ outside_of h.sets → map (held_of new s) h.structure.entries ≡ map (held_of old s) h.structure.entries }
 {}
