@@ -150,7 +150,7 @@ visible_is Cleanup is = absurd (true≢false (sym is))
 
 -- an entry that is found counts
 counts_there : (p : Owned) (l : IsLawful p) (c : StructNo) (queue : List ℕ) (order : Delivery) (select : Selector) (e : Entry) → lists.first_of queue order select (structure_in c p.structures).entries ≡ Some e
-    → option_and_then (counted l.rest.logs) (entry_at e.id.number (map (held_of l.rest.outside c) (structure_in c p.structures).entries)) ≡ Some (message_of c e.id e.head (body_of l.rest.outside c e.place))
+    → option_and_then (counted l.rest.logs) (entry_at e.id.number (map (held_of l.rest.outside c) (structure_in c p.structures).entries)) ≡ Some (message_of c e.id e.head (body_of (l.rest.outside c) e.place))
 counts_there p l c queue order select e first =
     let es = (structure_in c p.structures).entries in
     let ordered = shelf_order l.rest.outside c (structure_in c p.structures) (l.laws.shelves c) in
@@ -167,7 +167,7 @@ read_is p l terms epoch queue select e body served first inline =
     let m = message_of terms.structure e.id e.head body in
     let h = p.history.items in
     let active = served_active (structure_in terms.structure p.structures) (use_of terms epoch) served in
-    let there = ap (λ (x : Place). Some (message_of terms.structure e.id e.head (body_of l.rest.outside terms.structure x))) (sym inline) in
+    let there = ap (λ (x : Place). Some (message_of terms.structure e.id e.head (body_of (l.rest.outside terms.structure) x))) (sym inline) in
     let held : held_at (key m) h ≡ Some m =
     ap (held_at (key m)) (sym l.mirrored.history) ∙ sym (l.laws.good terms.structure active e.id.number) ∙ counts_there p l terms.structure queue terms.order select e first ∙ sym there in
     record { past = omega arith; held = ap (held_at (key m)) (take-length h) ∙ held }

@@ -173,7 +173,7 @@ shows : (s : State) (sound : IsSound s) (l : IsLawful s.parts) (m : Message) (e 
 shows s sound l m e fits active given is =
     let structure = structure_in m.structure s.parts.structures in
     let outside = l.rest.outside in
-    let msg = message_of m.structure e.id e.head (body_of outside m.structure e.place) in
+    let msg = message_of m.structure e.id e.head (body_of (outside m.structure) e.place) in
     let named = l.laws.marked m.structure m.id.number (held_of outside m.structure e) (entry_is s sound l m.structure m.id (Some e) is) in
     let both = shown_by l.rest.logs msg m e.mark (counts_there s sound l m (Some e) active given.held is)
     (λ v mark committed same.
@@ -184,7 +184,7 @@ shows s sound l m e fits active given is =
     (subst (λ (y : Message). MarkNames l.rest.failed (λ k w. task_at k w s.parts.managers) (key m) y (PutBy v)) same
     (subst (λ (y : Mark). MarkNames l.rest.failed (λ k w. task_at k w s.parts.managers) (key m) msg y) mark named))) in
     let inline = inline_is e e.place refl (found_inside (lists.has_id m.id) structure.entries e (inside_in m.structure s.parts.structures fits.inside) is) in
-    let same : message_of m.structure e.id e.head inline.0 ≡ m = ap (λ (y : Place). message_of m.structure e.id e.head (body_of outside m.structure y)) (sym inline.1) ∙ both.0 in
+    let same : message_of m.structure e.id e.head inline.0 ≡ m = ap (λ (y : Place). message_of m.structure e.id e.head (body_of (outside m.structure) y)) (sym inline.1) ∙ both.0 in
     let body : inline.0 ≡ m.body = ap (λ (y : Message). y.body) same in
     record {
       entry = e;
