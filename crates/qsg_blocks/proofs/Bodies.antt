@@ -1,5 +1,5 @@
 -- the bodies of entries, and that they are safe
-use Rattle.std.proofs.Common.{◌≡◌, ◌≢◌, ℕ, ◌+◌, ◌<◌, ◌≤◌, Bool, true, false, List, [], ◌∷◌, ◌++◌, Option, Some, None, refl, sym, ap, ◌∙◌, arith, inl, inr, subst, length, map}
+use Rattle.std.proofs.Common.{◌≡◌, ℕ, ◌<◌, ◌≤◌, List, [], ◌∷◌, refl, sym, ap, arith, inl, inr, subst, map}
 use Rattle.std.specs.Prelude.{◌⊎◌}
 use Rattle.std.specs.List.{AllByRecursion, AllZip}
 use Rattle.std.proofs.lemmas.Bool.{cases_Bool}
@@ -7,27 +7,24 @@ use Rattle.qsg_num.specs.declared.seats.Member.{Member}
 use Rattle.qsg_num.specs.declared.seats.StructNo.{StructNo}
 use Rattle.qsg_num.specs.declared.seats.TaskNo.{TaskNo}
 use Rattle.qsg_num.specs.declared.ids.Block.{Block}
-use Rattle.qsg_num.specs.Seats.{member_number, task_number}
-use Rattle.qsg_disk.specs.Byte.{Byte, values, Beside, EachPair, IsKeptOrSynced, IsCut as IsCutByte}
+use Rattle.qsg_num.specs.Seats.{task_number}
+use Rattle.qsg_disk.specs.Byte.{Byte, values, EachPair, IsKeptOrSynced, IsCut as IsCutByte}
 use Rattle.qsg_lists.specs.declared.parts.Entry.{Entry}
 use Rattle.qsg_lists.specs.declared.parts.Place.{Place}
 use Rattle.qsg_lists.specs.declared.parts.Place.TheVariants.{Inline, Offloaded}
 use Rattle.qsg_lists.specs.declared.parts.State.{State}
 use Rattle.qsg_lists.specs.declared.parts.State.TheVariants.{Active, Failed, InRecover}
-use Rattle.qsg_lists.specs.Entries.{revise}
 use Rattle.qsg_lists.specs.Settling.{deleted}
 use Rattle.qsg_lists.specs.Writing.{new_entry}
 use Rattle.qsg_lists.proofs.Appending.{all_push}
-use Rattle.qsg_space.specs.Spaces.{has_block}
-use Rattle.qsg_dataset.specs.Contents.{Contents}
 use Rattle.qsg_datasets.specs.declared.member_data_set.Hand.{Hand}
 use Rattle.qsg_datasets.specs.Kept.{KeptSet, no_hand, hand_of, with_hand, freed}
 use Rattle.qsg_manager.specs.Views.{Bodies, Outside, body_of, is_outside, message_of, held_of}
 use Rattle.qsg_group.specs.Tables.{at_member}
 use Rattle.qsg_group.proofs.Tables.{every_member}
-use Rattle.qsg_blocks.specs.State.{Post, Ground, IsThere, AreTold, stands, cells_at, outside_of, uses, lists, listed, reserved}
+use Rattle.qsg_blocks.specs.State.{Ground, AreTold, stands, cells_at, outside_of, uses, lists, listed}
 use Rattle.qsg_blocks.specs.Laws.{IsBlank, IsHeldBy, IsEmptied, IsSafe, IsSafePlace, AreBodiesSafe, IsFitting, Laws}
-use Rattle.qsg_blocks.specs.Changes.{with_set, ended, next, blocks_of, handed_over, MayWrite, MayList, Change}
+use Rattle.qsg_blocks.specs.Changes.{with_set, blocks_of, handed_over, MayWrite, MayList, Change}
 use Rattle.qsg_blocks.specs.Changes.Change.{Rests, Takes, GivesBack, Writes, Syncs, Reads, PutsInside, PutsOutside, Revises, Forgets, Crashes, Stops, Maps, Saves, Starts, Loses, Begins, RestoresInside, RestoresOutside, Ends, Abandons}
 use Rattle.qsg_blocks.proofs.Counting.{has-used, holds-now, reserved-at, hands-at, lists-own}
 use Rattle.qsg_blocks.proofs.Fitting.{set_at, stays_put, deleted_put, places-revise}

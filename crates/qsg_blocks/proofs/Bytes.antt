@@ -1,10 +1,8 @@
 -- what calls leave of the bytes in blocks
-use Rattle.std.proofs.Common.{◌≡◌, ◌≢◌, ℕ, zero, suc, ◌+◌, ◌*◌, ◌-◌, ◌<◌, ◌≤◌, min, List, [], ◌∷◌, ◌++◌, Some, refl, sym, ap, ◌∙◌, arith, length, inl, inr, subst, take, drop, map}
-use Rattle.std.specs.Prelude.{IfSome, ◌⊎◌, Option, None}
+use Rattle.std.proofs.Common.{◌≡◌, ℕ, zero, suc, ◌+◌, ◌*◌, ◌-◌, ◌<◌, ◌≤◌, min, List, [], ◌∷◌, ◌++◌, Some, refl, sym, ap, ◌∙◌, arith, inl, inr, subst, take, drop, map}
+use Rattle.std.specs.Prelude.{IfSome}
 use Rattle.std.specs.List.{AllByRecursion, AllZip}
-use Rattle.qsg_num.specs.declared.seats.Member.{Member}
 use Rattle.qsg_num.specs.declared.ids.Block.{Block}
-use Rattle.qsg_num.specs.Seats.{member_number}
 use Rattle.qsg_disk.specs.Byte.{Byte, values, value_of, part, synced, Beside, EachPair, IsKeptOrSynced, IsCut}
 use Rattle.qsg_disk.proofs.Parts.{zipped_part, part_after}
 use Rattle.qsg_dataset.specs.Contents.{Contents, offset_of, block_bytes}
@@ -12,7 +10,6 @@ use Rattle.qsg_dataset.proofs.Blocks.{other_block}
 use Rattle.qsg_blocks.specs.State.{cells_at, uses}
 use Rattle.qsg_blocks.specs.Laws.{IsSafe}
 use Rattle.qsg_blocks.proofs.Counting.{uses-head, uses-by_number}
-use Rattle.std.proofs.lemmas.Bool.{cases_eq}
 
 -- ---- bytes
 

@@ -1,8 +1,7 @@
 -- each block is free, listed or held, and only one of these
-use Rattle.std.proofs.Common.{◌≡◌, ◌≢◌, ℕ, zero, suc, not, ◌+◌, ◌<◌, ◌≤◌, Bool, true, false, List, [], ◌∷◌, ◌++◌, Option, Some, None, refl, sym, ap, ◌∙◌, arith, inl, inr, subst, length, max, replicate}
-use Rattle.std.specs.Prelude.{IfSome, ◌==◌, ◌&&◌, if◌then◌else◌, ◌⊎◌, slice_index_or}
-use Rattle.std.specs.List.{AllByRecursion}
-use Rattle.std.proofs.lemmas.Bool.{cases_eq, cases_lt, cases_Bool, eq-eqb, ne_eqb}
+use Rattle.std.proofs.Common.{◌≡◌, ◌≢◌, ℕ, zero, suc, not, ◌+◌, ◌<◌, ◌≤◌, Bool, true, false, List, [], ◌∷◌, ◌++◌, Option, Some, None, refl, sym, ap, ◌∙◌, arith, inl, inr, subst, max, replicate}
+use Rattle.std.specs.Prelude.{IfSome, ◌&&◌, if◌then◌else◌, ◌⊎◌, slice_index_or}
+use Rattle.std.proofs.lemmas.Bool.{cases_eq, cases_lt, cases_Bool, ne_eqb}
 use Rattle.qsg_num.specs.declared.seats.Member.{Member}
 use Rattle.qsg_num.specs.declared.seats.TaskNo.{TaskNo}
 use Rattle.qsg_num.specs.declared.ids.Block.{Block}
@@ -14,7 +13,7 @@ use Rattle.qsg_lists.specs.declared.parts.Place.{Place}
 use Rattle.qsg_lists.specs.declared.parts.Place.TheVariants.{Inline, Offloaded}
 use Rattle.qsg_lists.specs.declared.parts.State.{State}
 use Rattle.qsg_lists.specs.declared.parts.State.TheVariants.{Active, Failed, InRecover}
-use Rattle.qsg_lists.specs.Entries.{entry_at, revise}
+use Rattle.qsg_lists.specs.Entries.{revise}
 use Rattle.qsg_lists.specs.Structures.{ListStructure, is_active}
 use Rattle.qsg_lists.specs.Settling.{deleted}
 use Rattle.qsg_lists.specs.Writing.{new_entry, written, lost}
@@ -22,18 +21,18 @@ use Rattle.qsg_lists.specs.Recovering.{begun, restored, recovered, abandoned}
 use Rattle.qsg_space.specs.Spaces.{marked, is_free}
 use Rattle.qsg_datasets.specs.declared.member_data_set.Hand.{Hand}
 use Rattle.qsg_datasets.specs.declared.member_data_set.KeptMap.{KeptMap}
-use Rattle.qsg_datasets.specs.Kept.{KeptSet, IsKept, no_hand, used_in, hand_of, with_hand, with_map, given, taken, given_back, freed, is_of_epoch, stands as map_stands}
+use Rattle.qsg_datasets.specs.Kept.{KeptSet, no_hand, used_in, hand_of, with_hand, given, taken, given_back, freed, is_of_epoch, stands as map_stands}
 use Rattle.qsg_datasets.specs.Calls.{IsStorageSame, IsCut}
 use Rattle.qsg_manager.specs.Views.{is_outside}
 use Rattle.qsg_group.specs.Tables.{at_member}
 use Rattle.qsg_group.proofs.Tables.{same_member, every_member}
-use Rattle.qsg_blocks.specs.State.{Post, Ground, IsThere, AreTold, stands, uses, lists, listed, holds, reserved, used_once, free_once}
-use Rattle.qsg_blocks.specs.Laws.{Counts, IsCounted, IsTold, IsPast, IsBlank, AreBlank, IsTimely, IsBegun, IsEmptied, IsFitting, Laws}
-use Rattle.qsg_blocks.specs.Changes.{with_structure, with_set, with_post, ended, next, begun_set, without_map, blocks_of, handed_over, KeepsPlaces, MayTake, MayList, MayForget, MayStart, MayEnd, Change}
+use Rattle.qsg_blocks.specs.State.{Post, Ground, AreTold, stands, uses, lists, listed, holds, reserved, used_once, free_once}
+use Rattle.qsg_blocks.specs.Laws.{Counts, IsCounted, IsPast, AreBlank, IsBegun, IsEmptied, IsFitting, Laws}
+use Rattle.qsg_blocks.specs.Changes.{ended, next, begun_set, without_map, blocks_of, handed_over, KeepsPlaces, MayTake, MayList, MayForget, MayStart, MayEnd, Change}
 use Rattle.qsg_blocks.specs.Changes.Change.{Rests, Takes, GivesBack, Writes, Syncs, Reads, PutsInside, PutsOutside, Revises, Forgets, Crashes, Stops, Maps, Saves, Starts, Loses, Begins, RestoresInside, RestoresOutside, Ends, Abandons}
-use Rattle.qsg_blocks.proofs.Counting.{used-one, used-blank, used-marked, given-once, given-within, holds-blank, holds-now, holds-other, reserved-set, reserved-at, reserved-none, hands-set, hands-at, share, tally-push, tally-revise, tally-kept, tally-at, lists-own, lists-other}
-use Rattle.qsg_blocks.proofs.Fitting.{set_at, set_other, task_within, length-used}
-use Rattle.qsg_blocks.proofs.Standing.{stands-down, stands-up, stands-active, is_now_active, stands-others, stands-own, stands-newer, counts-up, counts-down, up-counts, down-counts, counts-one, counts_if, told_true, told_false, past_before, past_low, unlost_blank, down_blank, still_blank, blank_reserved, idle_hands, early_hands, used_in-now, used_in-old, used_in-none, used_in-same, used-freed_in}
+use Rattle.qsg_blocks.proofs.Counting.{used-one, used-blank, used-marked, given-once, given-within, holds-blank, holds-now, holds-other, reserved-set, reserved-at, reserved-none, hands-set, share, tally-push, tally-revise, tally-kept, lists-own, lists-other}
+use Rattle.qsg_blocks.proofs.Fitting.{set_at, set_other, task_within}
+use Rattle.qsg_blocks.proofs.Standing.{stands-down, stands-up, stands-active, stands-others, stands-own, stands-newer, counts-up, counts-down, up-counts, down-counts, counts-one, counts_if, told_true, told_false, past_before, past_low, unlost_blank, down_blank, still_blank, blank_reserved, idle_hands, early_hands, used_in-now, used_in-old, used_in-same, used-freed_in}
 
 -- ---- what the law says of owners that stand, and of any
 

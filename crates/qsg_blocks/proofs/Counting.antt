@@ -1,22 +1,20 @@
 -- how often a block is listed, held and used
-use Rattle.std.proofs.Common.{◌≡◌, ◌≢◌, ℕ, zero, suc, ◌+◌, ◌<◌, ◌≤◌, Bool, true, false, cond, not, List, [], ◌∷◌, ◌++◌, Option, Some, None, refl, sym, ap, ◌∙◌, arith, length, inl, inr, subst, get_or, take, slice_set}
+use Rattle.std.proofs.Common.{◌≡◌, ◌≢◌, ℕ, zero, suc, ◌+◌, ◌<◌, ◌≤◌, Bool, true, false, cond, List, [], ◌∷◌, ◌++◌, Option, Some, None, refl, sym, ap, ◌∙◌, arith, length, inl, inr, subst, get_or, take, slice_set}
 use Rattle.std.specs.Prelude.{if◌then◌else◌, ◌==◌, ◌||◌, ◌⊎◌, slice_index_or, replicate}
 use Rattle.std.specs.List.{cons_option, AllByRecursion}
-use Rattle.std.proofs.lemmas.Bool.Decides.{nat_tests}
 use Rattle.std.proofs.lemmas.Bool.{cases_eq, cases_lt, cases_Bool, eq-eqb, ne_eqb}
 use Rattle.qsg_num.specs.declared.seats.Member.{Member}
 use Rattle.qsg_num.specs.declared.ids.Block.{Block}
 use Rattle.qsg_num.specs.declared.ids.EntryId.{EntryId}
 use Rattle.qsg_num.specs.Seats.{member_number}
 use Rattle.qsg_lists.specs.declared.parts.Entry.{Entry}
-use Rattle.qsg_lists.specs.declared.parts.Place.{Place}
-use Rattle.qsg_lists.specs.declared.parts.Place.TheVariants.{Inline, Offloaded}
+use Rattle.qsg_lists.specs.declared.parts.Place.TheVariants.{Offloaded}
 use Rattle.qsg_lists.specs.Entries.{entry_at, revise}
 use Rattle.qsg_lists.proofs.Lookups.{revise-head, revise-tail, entry_at-head, entry_at-tail}
 use Rattle.qsg_space.specs.Spaces.{marked, has_block, free_from, free_blocks, is_used, block_at}
 use Rattle.qsg_space.proofs.Marking.{get_or-marked, length-marked}
 use Rattle.qsg_datasets.specs.declared.member_data_set.Hand.{Hand}
-use Rattle.qsg_blocks.specs.State.{uses, lists, tally, listed, holds, reserved, used_once}
+use Rattle.qsg_blocks.specs.State.{uses, lists, tally, holds, reserved, used_once}
 
 -- ---- a block in a list
 

@@ -1,27 +1,24 @@
 -- while an owner is down its blocks stay listed as they are
-use Rattle.std.proofs.Common.{◌≡◌, ◌≢◌, ℕ, ◌+◌, ◌<◌, ◌≤◌, Bool, true, false, List, [], ◌∷◌, ◌++◌, Option, Some, None, refl, sym, ap, ◌∙◌, arith, inl, inr, subst, max}
-use Rattle.std.specs.Prelude.{nat_lt, if◌then◌else◌, ◌⊎◌}
-use Rattle.std.specs.List.{AllByRecursion}
+use Rattle.std.proofs.Common.{◌≡◌, ℕ, Bool, true, false, List, Option, Some, None, refl, sym, ap, ◌∙◌, arith, subst}
+use Rattle.std.specs.Prelude.{nat_lt, if◌then◌else◌}
 use Rattle.qsg_num.specs.declared.seats.Member.{Member}
 use Rattle.qsg_num.specs.declared.ids.Block.{Block}
-use Rattle.qsg_num.specs.declared.ids.EntryId.{EntryId}
 use Rattle.qsg_num.specs.Seats.{member_number}
 use Rattle.qsg_lists.specs.declared.parts.Entry.{Entry}
 use Rattle.qsg_lists.specs.declared.parts.Place.{Place}
 use Rattle.qsg_lists.specs.declared.parts.Place.TheVariants.{Inline, Offloaded}
 use Rattle.qsg_lists.specs.declared.parts.State.{State}
 use Rattle.qsg_lists.specs.declared.parts.State.TheVariants.{Active, Failed, InRecover}
-use Rattle.qsg_lists.specs.Entries.{revise}
-use Rattle.qsg_lists.specs.Structures.{ListStructure, is_active}
+use Rattle.qsg_lists.specs.Structures.{is_active}
 use Rattle.qsg_lists.specs.Settling.{deleted}
 use Rattle.qsg_lists.specs.Writing.{new_entry}
 use Rattle.qsg_lists.specs.Recovering.{is_recovering}
 use Rattle.qsg_manager.specs.Views.{is_outside}
 use Rattle.qsg_group.proofs.Tables.{same_member}
-use Rattle.qsg_blocks.specs.State.{Post, Ground, stands, lists, listed, tally, used_once}
+use Rattle.qsg_blocks.specs.State.{Ground, lists, listed, tally}
 use Rattle.qsg_blocks.specs.Laws.{IsPast, IsMapTrue}
 use Rattle.qsg_blocks.specs.Changes.{blocks_of, KeepsPlaces, Change}
-use Rattle.qsg_blocks.specs.Changes.Change.{Rests, Takes, GivesBack, Writes, Syncs, Reads, PutsInside, PutsOutside, Revises, Forgets, Crashes, Stops, Maps, Saves, Starts, Loses, Begins, RestoresInside, RestoresOutside, Ends, Abandons}
+use Rattle.qsg_blocks.specs.Changes.Change.{PutsInside, PutsOutside, Revises, Forgets, Loses, Begins, RestoresInside, RestoresOutside, Ends, Abandons}
 use Rattle.qsg_blocks.specs.Works.{lists_to}
 use Rattle.qsg_blocks.proofs.Counting.{share, tally-push, tally-revise, tally-kept, lists-other}
 use Rattle.qsg_blocks.proofs.Standing.{stands-up, past_low, past_before, past_now}

@@ -1,6 +1,6 @@
 -- blocks stay in range, over every device
-use Rattle.std.proofs.Common.{◌≡◌, ℕ, zero, suc, ◌+◌, ◌*◌, ◌<◌, ◌≤◌, Bool, true, false, cond, List, [], ◌∷◌, ◌++◌, Option, Some, None, refl, sym, ap, ◌∙◌, arith, length, inl, inr, subst, take, slice_set}
-use Rattle.std.specs.Prelude.{IfSome, replicate, ◌==◌, if◌then◌else◌, slice_index_or, ◌⊎◌}
+use Rattle.std.proofs.Common.{◌≡◌, ℕ, zero, suc, ◌+◌, ◌<◌, ◌≤◌, Bool, true, false, List, [], ◌∷◌, Option, Some, None, refl, sym, ap, ◌∙◌, arith, length, inl, inr, subst, take}
+use Rattle.std.specs.Prelude.{IfSome, replicate, ◌==◌, if◌then◌else◌, ◌⊎◌}
 use Rattle.std.specs.List.{cons_option, AllByRecursion}
 use Rattle.std.proofs.lemmas.List.{length-set, length-replicate}
 use Rattle.std.proofs.lemmas.Bool.{cases_eq}
@@ -20,16 +20,16 @@ use Rattle.qsg_lists.proofs.Lookups.{revise-head, revise-tail}
 use Rattle.qsg_lists.proofs.Appending.{all_push}
 use Rattle.qsg_space.specs.Spaces.{marked, free_from, free_blocks}
 use Rattle.qsg_space.proofs.Marking.{length-marked}
-use Rattle.qsg_dataset.specs.Contents.{Contents, IsSame, IsSized, extent_of}
+use Rattle.qsg_dataset.specs.Contents.{Contents, IsSame}
 use Rattle.qsg_datasets.specs.declared.member_data_set.Hand.{Hand}
 use Rattle.qsg_datasets.specs.declared.member_data_set.KeptMap.{KeptMap}
-use Rattle.qsg_datasets.specs.Kept.{KeptSet, IsKept, no_hand, no_hands, used_by, used_in, hand_of, with_hand, given, taken, given_back, freed_in, freed}
+use Rattle.qsg_datasets.specs.Kept.{KeptSet, IsKept, no_hand, used_by, used_in, hand_of, with_hand, given, taken, given_back, freed_in, freed}
 use Rattle.qsg_datasets.specs.Calls.{IsStorageSame, IsCut}
 use Rattle.qsg_group.specs.Tables.{at_member}
-use Rattle.qsg_group.proofs.Tables.{change-same, change-other, cases_member, every_member}
+use Rattle.qsg_group.proofs.Tables.{change-same, change-other, every_member}
 use Rattle.qsg_blocks.specs.State.{Post, Ground, IsThere, AreTold, blocks_for}
 use Rattle.qsg_blocks.specs.Laws.{AreWithin, FitsPlace, AreAlike, AreBlank, IsFitting}
-use Rattle.qsg_blocks.specs.Changes.{with_structure, with_set, with_post, with_entries, ended, next, begun_set, without_map, blocks_of, handed_over, KeepsPlaces, MayList, Change}
+use Rattle.qsg_blocks.specs.Changes.{with_structure, with_set, with_post, begun_set, without_map, blocks_of, handed_over, KeepsPlaces, MayList, Change}
 use Rattle.qsg_blocks.specs.Changes.Change.{Rests, Takes, GivesBack, Writes, Syncs, Reads, PutsInside, PutsOutside, Revises, Forgets, Crashes, Stops, Maps, Saves, Starts, Loses, Begins, RestoresInside, RestoresOutside, Ends, Abandons}
 use Rattle.qsg_blocks.proofs.Counting.{hands-mono, hands-set, hands-at}
 

@@ -1,23 +1,21 @@
 -- saved maps
-use Rattle.std.proofs.Common.{◌≡◌, ◌≢◌, ℕ, zero, suc, ◌+◌, ◌*◌, ◌<◌, ◌≤◌, Bool, true, false, List, [], ◌∷◌, refl, sym, ap, ◌∙◌, arith, inl, inr, subst, length, map}
-use Rattle.std.specs.Prelude.{◌⊎◌}
+use Rattle.std.proofs.Common.{◌≡◌, ℕ, ◌≤◌, Bool, true, false, List, [], ◌∷◌, refl, sym, ◌∙◌, arith, inl, inr, subst, map}
 use Rattle.std.specs.List.{AllZip}
 use Rattle.qsg_num.specs.declared.seats.Member.{Member}
 use Rattle.qsg_num.specs.Seats.{member_number}
 use Rattle.qsg_disk.specs.Byte.{Byte, safe_byte, part, Beside, EachPair, IsKeptOrSynced}
 use Rattle.qsg_disk.proofs.Parts.{part_before, zipped_part, safe_kept}
 use Rattle.qsg_lists.specs.Structures.{ListStructure}
-use Rattle.qsg_lists.specs.Settling.{deleted}
 use Rattle.qsg_dataset.specs.Headers.{spelling}
-use Rattle.qsg_dataset.specs.Contents.{Contents, IsSame, IsShut, IsReady, offset_of}
+use Rattle.qsg_dataset.specs.Contents.{Contents, IsShut, IsReady, offset_of}
 use Rattle.qsg_dataset.proofs.Saving.{cut-shut, cut-ready}
-use Rattle.qsg_datasets.specs.Kept.{KeptSet, with_hand, taken, given_back, freed}
+use Rattle.qsg_datasets.specs.Kept.{KeptSet}
 use Rattle.qsg_datasets.specs.Calls.{IsCut}
 use Rattle.qsg_group.specs.Tables.{at_member}
 use Rattle.qsg_group.proofs.Tables.{every_member}
-use Rattle.qsg_blocks.specs.State.{Post, Ground, IsThere, AreTold, stands}
-use Rattle.qsg_blocks.specs.Laws.{IsOpen, IsHeader, IsFitting, Laws}
-use Rattle.qsg_blocks.specs.Changes.{with_set, with_structure, ended, next, begun_set, without_map, handed_over, MayWrite, MaySave, Change}
+use Rattle.qsg_blocks.specs.State.{Post, Ground, IsThere, AreTold}
+use Rattle.qsg_blocks.specs.Laws.{IsHeader, IsFitting, Laws}
+use Rattle.qsg_blocks.specs.Changes.{ended, next, MaySave, Change}
 use Rattle.qsg_blocks.specs.Changes.Change.{Rests, Takes, GivesBack, Writes, Syncs, Reads, PutsInside, PutsOutside, Revises, Forgets, Crashes, Stops, Maps, Saves, Starts, Loses, Begins, RestoresInside, RestoresOutside, Ends, Abandons}
 use Rattle.qsg_blocks.proofs.Fitting.{set_at, set_other}
 use Rattle.qsg_blocks.proofs.Down.{true_stays}

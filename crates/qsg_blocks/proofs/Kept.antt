@@ -1,8 +1,8 @@
 -- epochs, recoverers and ids
-use Rattle.std.proofs.Common.{◌≡◌, ◌≢◌, ℕ, ◌+◌, ◌*◌, ◌^◌, ◌<◌, ◌≤◌, Bool, true, false, List, [], ◌∷◌, ◌++◌, Option, Some, None, refl, sym, ap, ◌∙◌, arith, inl, inr, subst, length, max}
+use Rattle.std.proofs.Common.{◌≡◌, ◌≢◌, ℕ, ◌+◌, ◌*◌, ◌^◌, ◌<◌, ◌≤◌, Bool, true, false, List, [], ◌∷◌, ◌++◌, Option, Some, None, refl, sym, ap, ◌∙◌, arith, inl, inr, subst, max}
 use Rattle.std.specs.Prelude.{IfSome, ◌==◌, if◌then◌else◌, ◌⊎◌}
 use Rattle.std.specs.List.{AllByRecursion}
-use Rattle.std.proofs.lemmas.Bool.{cases_eq, cases_lt, cases_Bool}
+use Rattle.std.proofs.lemmas.Bool.{cases_eq, cases_lt}
 use Rattle.qsg_num.specs.declared.seats.Member.{Member}
 use Rattle.qsg_num.specs.declared.seats.TaskNo.{TaskNo}
 use Rattle.qsg_num.specs.declared.ids.Block.{Block}
@@ -14,7 +14,7 @@ use Rattle.qsg_lists.specs.declared.parts.Entry.{Entry}
 use Rattle.qsg_lists.specs.declared.parts.Place.TheVariants.{Inline, Offloaded}
 use Rattle.qsg_lists.specs.declared.parts.State.{State}
 use Rattle.qsg_lists.specs.declared.parts.State.TheVariants.{Active, Failed, InRecover}
-use Rattle.qsg_lists.specs.Entries.{AreInOrder, revise, KeepsId}
+use Rattle.qsg_lists.specs.Entries.{revise, KeepsId}
 use Rattle.qsg_lists.specs.Structures.{ListStructure, is_active}
 use Rattle.qsg_lists.specs.Settling.{deleted}
 use Rattle.qsg_lists.specs.Writing.{written, lost}
@@ -28,13 +28,13 @@ use Rattle.qsg_datasets.specs.Kept.{KeptSet, no_hand, hand_of, with_hand, taken,
 use Rattle.qsg_datasets.specs.Calls.{IsStorageSame, IsCut}
 use Rattle.qsg_group.specs.Tables.{at_member}
 use Rattle.qsg_group.proofs.Tables.{same_member, every_member}
-use Rattle.qsg_blocks.specs.State.{Post, Ground, IsThere, AreTold, stands, listed}
-use Rattle.qsg_blocks.specs.Laws.{IsTold, IsPast, IsBlank, AreBlank, IsHeldBy, IsTimely, IsBegun, IsEmptied, IsFresh, IsFitting, Laws}
-use Rattle.qsg_blocks.specs.Changes.{with_structure, with_set, with_post, ended, next, begun_set, without_map, blocks_of, handed_over, KeepsPlaces, MayTake, MayList, MayRestore, MayStart, MayEnd, Change}
+use Rattle.qsg_blocks.specs.State.{Post, Ground, AreTold, stands}
+use Rattle.qsg_blocks.specs.Laws.{IsTold, IsPast, IsBlank, AreBlank, IsHeldBy, IsTimely, IsBegun, IsEmptied, IsFresh, Laws}
+use Rattle.qsg_blocks.specs.Changes.{ended, next, begun_set, without_map, blocks_of, handed_over, KeepsPlaces, MayTake, MayRestore, MayStart, MayEnd, Change}
 use Rattle.qsg_blocks.specs.Changes.Change.{Rests, Takes, GivesBack, Writes, Syncs, Reads, PutsInside, PutsOutside, Revises, Forgets, Crashes, Stops, Maps, Saves, Starts, Loses, Begins, RestoresInside, RestoresOutside, Ends, Abandons}
 use Rattle.qsg_blocks.proofs.Counting.{hands-mono, hands-set}
 use Rattle.qsg_blocks.proofs.Fitting.{set_at, set_other}
-use Rattle.qsg_blocks.proofs.Standing.{stands-down, stands-up, stands-active, is_now_active, stands-others, stands-own, told_true, told_false, true_told, past_low, past_before, past_up, before_past, unlost_blank, down_blank, still_blank}
+use Rattle.qsg_blocks.proofs.Standing.{stands-active, stands-others, stands-own, told_true, true_told, past_low, past_before, past_up, before_past, unlost_blank, down_blank, still_blank}
 use Rattle.qsg_blocks.proofs.Counted.{listed-inside, listed-outside, listed-revised}
 
 -- ---- timely

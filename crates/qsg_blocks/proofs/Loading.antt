@@ -1,26 +1,24 @@
 -- a START's own steps
-use Rattle.std.proofs.Common.{◌≡◌, ◌≢◌, ℕ, zero, suc, ◌+◌, ◌*◌, ◌-◌, ◌^◌, ◌<◌, ◌≤◌, not, Bool, true, false, List, [], ◌∷◌, ◌++◌, Option, Some, None, refl, sym, ap, ◌∙◌, arith, inl, inr, subst, length, map, take, drop}
-use Rattle.std.specs.Prelude.{◌⊎◌, IfSome, find, slice_index, ◌==◌, ◌&&◌, if◌then◌else◌, nat_lt, Result, Ok, Err, OnOk, replicate, option_map}
-use Rattle.std.specs.List.{AllByRecursion, AllZip}
+use Rattle.std.proofs.Common.{◌≡◌, ◌≢◌, ℕ, ◌+◌, ◌-◌, ◌^◌, ◌<◌, ◌≤◌, not, Bool, true, false, List, [], ◌∷◌, Option, Some, None, refl, sym, ap, ◌∙◌, arith, inl, inr, subst, length, map, drop}
+use Rattle.std.specs.Prelude.{IfSome, find, ◌==◌, if◌then◌else◌, nat_lt, Result, Ok}
+use Rattle.std.specs.List.{AllByRecursion}
 use Rattle.std.proofs.lemmas.Bool.Decides.{nat_tests}
-use Rattle.std.proofs.lemmas.Bool.{cases_eq, cases_lt, cases_Bool, eq-eqb, ne_eqb}
+use Rattle.std.proofs.lemmas.Bool.{cases_eq, cases_Bool, eq-eqb, ne_eqb}
 use Rattle.std.proofs.lemmas.List.{drop-drop}
 use Rattle.qsg_num.specs.declared.seats.Member.{Member}
 use Rattle.qsg_num.specs.declared.ids.Block.{Block}
-use Rattle.qsg_num.specs.declared.ids.EntryId.{EntryId}
 use Rattle.qsg_num.specs.declared.words.Failed.{Failed}
-use Rattle.qsg_num.specs.Seats.{member_number}
-use Rattle.qsg_disk.specs.Byte.{Byte, values, written, synced, safe_byte, part, Beside}
+use Rattle.qsg_disk.specs.Byte.{Byte, values, synced, safe_byte, Beside}
 use Rattle.qsg_lists.specs.declared.parts.Entry.{Entry}
 use Rattle.qsg_lists.specs.declared.parts.Place.{Place}
 use Rattle.qsg_lists.specs.declared.parts.Place.TheVariants.{Inline, Offloaded}
-use Rattle.qsg_lists.specs.Entries.{AreInOrder, entry_at, is_above, is_owned}
-use Rattle.qsg_lists.specs.Structures.{ListStructure, is_active}
-use Rattle.qsg_lists.proofs.Found.{find-passes, all-find, find-none, find-entry_at}
+use Rattle.qsg_lists.specs.Entries.{AreInOrder, is_above, is_owned}
+use Rattle.qsg_lists.specs.Structures.{is_active}
+use Rattle.qsg_lists.proofs.Found.{find-passes, all-find, find-none}
 use Rattle.qsg_space.specs.Spaces.{marked}
 use Rattle.qsg_dataset.specs.Headers.{spelling}
-use Rattle.qsg_dataset.specs.Contents.{Contents, IsSaved, IsShut, IsReady, gate_of, gate_value, header_of, rest_of}
-use Rattle.qsg_dataset.specs.Steps.{ShutStep, Writes as WritesBytes}
+use Rattle.qsg_dataset.specs.Contents.{Contents, IsSaved, IsShut, gate_of, gate_value}
+use Rattle.qsg_dataset.specs.Steps.{ShutStep}
 use Rattle.qsg_dataset.proofs.Saving.{shut-unsaved, shutting-ready}
 use Rattle.qsg_dataset.proofs.Spelling.{one_epoch, one_map}
 use Rattle.qsg_dataset.proofs.Blocks.{values-written}
@@ -29,10 +27,10 @@ use Rattle.qsg_datasets.specs.declared.member_data_set.KeptMap.{KeptMap}
 use Rattle.qsg_datasets.specs.Kept.{KeptSet, IsKept, used_in, claimed_in, claimed}
 use Rattle.qsg_datasets.specs.Calls.{IsStorageSame, IsLoaded}
 use Rattle.qsg_blocks.specs.State.{Ground, IsThere, AreTold, lists, listed, tally, uses, used_once}
-use Rattle.qsg_blocks.specs.Laws.{AreWithin, FitsPlace, IsPast, IsMapTrue, IsOpen, IsHeader, IsFitting, Laws}
+use Rattle.qsg_blocks.specs.Laws.{AreWithin, FitsPlace, IsPast, IsOpen, IsHeader, IsFitting, Laws}
 use Rattle.qsg_blocks.specs.Changes.{with_set, IsMade, MaySave}
 use Rattle.qsg_blocks.specs.Works.{lists_to, epoch_of_map, shuts_for, Starter, FitsStart}
-use Rattle.qsg_blocks.proofs.Counting.{used-blank, used-marked, uses-head, uses-tail, tally-none, tally-at, lists-own}
+use Rattle.qsg_blocks.proofs.Counting.{used-blank, used-marked, uses-tail, tally-none, lists-own}
 use Rattle.qsg_blocks.proofs.Fitting.{set_at}
 use Rattle.qsg_blocks.proofs.Standing.{past_up, past_low, used_in-now, used_in-old, used_in-none, used_in-same}
 use Rattle.qsg_blocks.proofs.Counted.{apart}

@@ -1,7 +1,7 @@
 -- what a reader has read stays true
-use Rattle.std.proofs.Common.{◌≡◌, ◌≢◌, ℕ, zero, suc, ◌+◌, ◌*◌, ◌-◌, ◌^◌, ◌<◌, ◌≤◌, min, Bool, true, false, List, [], ◌∷◌, ◌++◌, Option, Some, None, refl, sym, ap, ◌∙◌, arith, inl, inr, subst, length, take, map, append_assoc}
-use Rattle.std.specs.Prelude.{◌⊎◌, slice_get, option_and_then, IfSome, find}
-use Rattle.std.specs.List.{AllByRecursion, AllZip}
+use Rattle.std.proofs.Common.{◌≡◌, ℕ, zero, suc, ◌+◌, ◌*◌, ◌-◌, ◌<◌, ◌≤◌, min, true, List, [], ◌∷◌, ◌++◌, Option, Some, None, refl, sym, ap, ◌∙◌, arith, inl, inr, subst, length, take, append_assoc}
+use Rattle.std.specs.Prelude.{slice_get, option_and_then}
+use Rattle.std.specs.List.{AllByRecursion}
 use Rattle.std.proofs.lemmas.Bool.{cases_eq}
 use Rattle.std.proofs.lemmas.List.{append-nil}
 use Rattle.std.proofs.Math.Seq.{take-length}
@@ -12,26 +12,23 @@ use Rattle.qsg_num.specs.Ids.{id_at}
 use Rattle.qsg_disk.specs.Byte.{Byte, values}
 use Rattle.qsg_lists.specs.declared.parts.Entry.{Entry}
 use Rattle.qsg_lists.specs.declared.parts.Place.TheVariants.{Inline, Offloaded}
-use Rattle.qsg_lists.specs.declared.parts.State.{State}
-use Rattle.qsg_lists.specs.declared.parts.State.TheVariants.{Active, Failed, InRecover}
 use Rattle.qsg_lists.specs.Entries.{AreInOrder, KeepsId, has_id, entry_at, revise}
-use Rattle.qsg_lists.specs.Structures.{ListStructure, is_active}
+use Rattle.qsg_lists.specs.Structures.{is_active}
 use Rattle.qsg_lists.specs.Settling.{deleted}
 use Rattle.qsg_lists.specs.Writing.{new_entry}
-use Rattle.qsg_lists.proofs.Found.{entry_at-append_other, entry_at-revise, entry_at-revise_other, entry_at-id, all-find}
+use Rattle.qsg_lists.proofs.Found.{entry_at-append_other, entry_at-revise, entry_at-revise_other, all-find}
 use Rattle.qsg_lists.proofs.Lookups.{same_id}
 use Rattle.qsg_dataset.specs.Contents.{Contents, block_bytes}
-use Rattle.qsg_datasets.specs.Kept.{KeptSet}
 use Rattle.qsg_manager.specs.Views.{body_of}
 use Rattle.qsg_blocks.specs.State.{Ground, AreTold, cells_at, body_at, outside_of, uses, lists, listed}
-use Rattle.qsg_blocks.specs.Laws.{IsPast, IsSafe, IsSafePlace, IsFitting, Laws}
-use Rattle.qsg_blocks.specs.Changes.{blocks_of, KeepsPlaces, Change}
-use Rattle.qsg_blocks.specs.Changes.Change.{Rests, Takes, GivesBack, Writes, Syncs, Reads, PutsInside, PutsOutside, Revises, Forgets, Crashes, Stops, Maps, Saves, Starts, Loses, Begins, RestoresInside, RestoresOutside, Ends, Abandons}
+use Rattle.qsg_blocks.specs.Laws.{IsSafe, IsSafePlace, IsFitting, Laws}
+use Rattle.qsg_blocks.specs.Changes.{blocks_of, Change}
+use Rattle.qsg_blocks.specs.Changes.Change.{PutsInside, PutsOutside, Revises, Forgets, Loses, Begins, RestoresInside, RestoresOutside, Abandons}
 use Rattle.qsg_blocks.specs.Works.{Reader, HasRead, FitsRead}
 use Rattle.qsg_blocks.proofs.Counting.{tally-at, uses-take, lists-own}
 use Rattle.qsg_blocks.proofs.Standing.{past_up}
 use Rattle.qsg_blocks.proofs.Kept.{keeps_id, deleted_id}
-use Rattle.qsg_blocks.proofs.Bytes.{Steady, steady_same, safe_append}
+use Rattle.qsg_blocks.proofs.Bytes.{steady_same, safe_append}
 use Rattle.qsg_blocks.proofs.Bodies.{stays}
 use Rattle.qsg_blocks.proofs.Down.{unrecovered, epoch_cases}
 

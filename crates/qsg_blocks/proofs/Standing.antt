@@ -1,5 +1,5 @@
 -- who may write entries, and for which epoch blocks are held
-use Rattle.std.proofs.Common.{◌≡◌, ◌≢◌, ℕ, ◌+◌, ◌<◌, ◌≤◌, Bool, true, false, List, [], ◌∷◌, Option, Some, None, refl, sym, ap, ◌∙◌, arith, inl, inr, subst}
+use Rattle.std.proofs.Common.{◌≡◌, ◌≢◌, ℕ, ◌+◌, ◌<◌, ◌≤◌, Bool, true, false, List, Option, Some, None, refl, sym, ap, ◌∙◌, arith, inl, inr, subst}
 use Rattle.std.specs.Prelude.{IfSome, ◌==◌, ◌&&◌, if◌then◌else◌, ◌⊎◌, replicate}
 use Rattle.std.specs.List.{AllByRecursion}
 use Rattle.std.proofs.lemmas.Bool.{cases_eq, eq-eqb, ne_eqb}
@@ -13,10 +13,10 @@ use Rattle.qsg_lists.specs.Structures.{ListStructure, is_active}
 use Rattle.qsg_space.specs.Spaces.{marked}
 use Rattle.qsg_datasets.specs.declared.member_data_set.Hand.{Hand}
 use Rattle.qsg_datasets.specs.declared.member_data_set.KeptMap.{KeptMap}
-use Rattle.qsg_datasets.specs.Kept.{KeptSet, no_hand, used_by, used_in, freed_in, freed}
-use Rattle.qsg_blocks.specs.State.{Post, stands, uses, holds, reserved, used_once}
+use Rattle.qsg_datasets.specs.Kept.{KeptSet, used_by, used_in, freed_in, freed}
+use Rattle.qsg_blocks.specs.State.{Post, stands, holds, reserved, used_once}
 use Rattle.qsg_blocks.specs.Laws.{Counts, IsTold, IsPast, IsBlank, AreBlank, IsHeldBy, IsTimely}
-use Rattle.qsg_blocks.proofs.Counting.{used-one, used-blank, used-freed, holds-blank, holds-now, holds-other, reserved-none, hands-mono}
+use Rattle.qsg_blocks.proofs.Counting.{used-blank, used-freed, holds-blank, holds-now, holds-other, reserved-none, hands-mono}
 
 -- ---- who stands
 

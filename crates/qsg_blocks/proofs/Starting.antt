@@ -1,30 +1,23 @@
 -- a START and a STOP, while others act
-use Rattle.std.proofs.Common.{◌≡◌, ◌≢◌, ℕ, zero, suc, ◌+◌, ◌*◌, ◌-◌, ◌<◌, ◌≤◌, Bool, true, false, List, [], ◌∷◌, ◌++◌, Option, Some, None, refl, sym, ap, ◌∙◌, arith, inl, inr, subst, length, map}
-use Rattle.std.specs.Prelude.{◌⊎◌, IfSome, slice_index, ◌==◌, if◌then◌else◌}
-use Rattle.std.specs.List.{AllByRecursion, AllZip}
-use Rattle.std.proofs.lemmas.Bool.{cases_eq}
+use Rattle.std.proofs.Common.{◌≡◌, ℕ, Bool, true, false, List, [], ◌∷◌, Option, Some, None, refl, sym, ap, ◌∙◌, inl, subst, map}
+use Rattle.std.specs.Prelude.{IfSome, slice_index, ◌==◌, if◌then◌else◌}
+use Rattle.std.specs.List.{AllZip}
 use Rattle.qsg_num.specs.declared.seats.Member.{Member}
 use Rattle.qsg_num.specs.declared.ids.Block.{Block}
-use Rattle.qsg_num.specs.Seats.{member_number}
-use Rattle.qsg_disk.specs.Byte.{Byte, values, safe_byte, part, EachPair, IsKeptOrSynced}
+use Rattle.qsg_disk.specs.Byte.{Byte, values, safe_byte, part, IsKeptOrSynced}
 use Rattle.qsg_disk.proofs.Parts.{zipped_part, safe_kept, values_kept}
-use Rattle.qsg_lists.specs.declared.parts.Entry.{Entry}
-use Rattle.qsg_lists.specs.declared.parts.State.{State}
-use Rattle.qsg_lists.specs.declared.parts.State.TheVariants.{Active, Failed, InRecover}
-use Rattle.qsg_lists.specs.Structures.{ListStructure, is_active}
+use Rattle.qsg_lists.specs.Structures.{is_active}
 use Rattle.qsg_space.specs.Spaces.{marked}
 use Rattle.qsg_dataset.specs.Headers.{spelling}
-use Rattle.qsg_dataset.specs.Contents.{Contents, gate_of, gate_value, header_of, rest_of, IsShut, IsReady}
-use Rattle.qsg_datasets.specs.declared.member_data_set.Hand.{Hand}
+use Rattle.qsg_dataset.specs.Contents.{Contents, gate_value}
 use Rattle.qsg_datasets.specs.declared.member_data_set.KeptMap.{KeptMap}
 use Rattle.qsg_datasets.specs.Kept.{KeptSet, used_in, hand_of, with_hand, no_hand, freed_in, freed, taken, given_back}
-use Rattle.qsg_datasets.specs.Calls.{IsStorageSame}
 use Rattle.qsg_group.specs.Tables.{at_member}
 use Rattle.qsg_group.proofs.Tables.{moved}
-use Rattle.qsg_blocks.specs.State.{Post, Ground, IsThere, AreTold, stands, lists, listed, tally, used_once}
-use Rattle.qsg_blocks.specs.Laws.{IsPast, IsBlank, IsMapTrue, IsEmptied, IsFitting, Laws}
-use Rattle.qsg_blocks.specs.Changes.{with_set, ended, next, begun_set, without_map, blocks_of, Change}
-use Rattle.qsg_blocks.specs.Changes.Change.{Rests, Takes, GivesBack, Writes, Syncs, Reads, PutsInside, PutsOutside, Revises, Forgets, Crashes, Stops, Maps, Saves, Starts, Loses, Begins, RestoresInside, RestoresOutside, Ends, Abandons}
+use Rattle.qsg_blocks.specs.State.{Post, Ground, AreTold, listed, used_once}
+use Rattle.qsg_blocks.specs.Laws.{IsPast, IsBlank, IsEmptied, IsFitting, Laws}
+use Rattle.qsg_blocks.specs.Changes.{ended, next, begun_set, without_map, Change}
+use Rattle.qsg_blocks.specs.Changes.Change.{Takes, GivesBack, Writes, Syncs, Reads, PutsInside, PutsOutside, Revises, Forgets, Crashes, Stops, Maps, Saves, Starts, Loses, Begins, RestoresInside, RestoresOutside, Ends, Abandons}
 use Rattle.qsg_blocks.specs.Works.{lists_to, epoch_of_map, Starter, FitsStart, IsOtherMembers, Stopper, IsSaving, FitsStop}
 use Rattle.qsg_blocks.proofs.Counting.{hands-at}
 use Rattle.qsg_blocks.proofs.Standing.{stands-up, down_blank, used_in-same}

@@ -1,30 +1,27 @@
 -- a STOP's own steps
-use Rattle.std.proofs.Common.{◌≡◌, ◌≢◌, ℕ, zero, suc, ◌+◌, ◌<◌, ◌≤◌, Bool, true, false, List, [], ◌∷◌, Option, Some, None, refl, sym, ap, ◌∙◌, arith, inl, inr, subst, length, map, take, drop}
+use Rattle.std.proofs.Common.{◌≡◌, ℕ, zero, suc, ◌+◌, ◌≤◌, Bool, true, false, List, [], ◌∷◌, Option, Some, None, refl, sym, ap, ◌∙◌, arith, inl, inr, subst, length, map, take, drop}
 use Rattle.std.specs.Prelude.{◌⊎◌, IfSome, Result, Ok}
-use Rattle.std.specs.List.{AllByRecursion, AllZip}
-use Rattle.std.proofs.lemmas.Bool.{cases_Bool}
 use Rattle.std.proofs.lemmas.List.{take-map, drop-map}
 use Rattle.qsg_num.specs.declared.seats.Member.{Member}
-use Rattle.qsg_num.specs.declared.ids.Block.{Block}
 use Rattle.qsg_num.specs.declared.words.Failed.{Failed}
 use Rattle.qsg_disk.specs.Byte.{Byte, values, synced, safe_byte, part, EachPair, IsKeptOrSynced}
 use Rattle.qsg_disk.proofs.Parts.{part_after, zipped_part, values_kept}
 use Rattle.qsg_lists.specs.Structures.{is_active}
 use Rattle.qsg_dataset.specs.Headers.{spelling}
-use Rattle.qsg_dataset.specs.Contents.{IsShut, IsReady, rest_of}
+use Rattle.qsg_dataset.specs.Contents.{IsReady, rest_of}
 use Rattle.qsg_dataset.specs.Steps.{SaveStep}
 use Rattle.qsg_dataset.proofs.Saving.{saving-shut, saving-ready}
 use Rattle.qsg_dataset.proofs.Spelling.{length-spelling}
 use Rattle.qsg_dataset.proofs.Blocks.{values-written}
 use Rattle.qsg_datasets.specs.declared.member_data_set.KeptMap.{KeptMap}
-use Rattle.qsg_datasets.specs.Kept.{KeptSet, IsKept, used_in}
+use Rattle.qsg_datasets.specs.Kept.{KeptSet}
 use Rattle.qsg_datasets.specs.Calls.{IsStorageSame}
-use Rattle.qsg_blocks.specs.State.{Post, Ground, IsThere, AreTold, stands, listed, used_once}
-use Rattle.qsg_blocks.specs.Laws.{IsPast, AreBlank, IsMapTrue, IsHeader, IsFitting, Laws}
+use Rattle.qsg_blocks.specs.State.{Post, Ground, IsThere, stands, used_once}
+use Rattle.qsg_blocks.specs.Laws.{IsPast, AreBlank, IsMapTrue, IsFitting, Laws}
 use Rattle.qsg_blocks.specs.Changes.{with_set, with_post, ended, MaySave}
 use Rattle.qsg_blocks.specs.Works.{Stopper, IsSaving, FitsStop}
 use Rattle.qsg_blocks.proofs.Fitting.{set_at, post_at}
-use Rattle.qsg_blocks.proofs.Standing.{stands-active, past_up, past_before, past_low, past_now, blank_reserved, used_in-now}
+use Rattle.qsg_blocks.proofs.Standing.{stands-active, past_before, past_low, past_now, blank_reserved, used_in-now}
 use Rattle.qsg_blocks.proofs.Counted.{owned}
 use Rattle.qsg_blocks.proofs.Headers.{header_up}
 use Rattle.qsg_blocks.proofs.Loading.{header_beside}

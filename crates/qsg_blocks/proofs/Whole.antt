@@ -1,18 +1,16 @@
 -- all laws, at the start and after every change
-use Rattle.std.proofs.Common.{◌≡◌, ℕ, true, false, Bool, List, [], None, Some, Option, refl, sym, ap, ◌∙◌, arith, subst, inl}
+use Rattle.std.proofs.Common.{◌≡◌, true, false, Bool, List, [], None, Option, sym, ap, arith, subst, inl}
 use Rattle.std.specs.Prelude.{IfSome, ◌≤◌}
 use Rattle.std.specs.List.{AllByRecursion}
 use Rattle.qsg_num.specs.Ids.{id_at}
 use Rattle.qsg_lists.specs.Entries.{AreInOrder}
 use Rattle.qsg_num.specs.declared.seats.Member.{Member}
-use Rattle.qsg_num.specs.declared.ids.Block.{Block}
 use Rattle.qsg_lists.specs.declared.parts.Entry.{Entry}
 use Rattle.qsg_lists.specs.declared.parts.State.TheVariants.{Active}
 use Rattle.qsg_dataset.specs.Contents.{IsShut}
 use Rattle.qsg_datasets.specs.declared.member_data_set.KeptMap.{KeptMap}
-use Rattle.qsg_datasets.specs.Kept.{used_in}
 use Rattle.qsg_blocks.specs.State.{Ground, IsThere, AreTold, stands, listed}
-use Rattle.qsg_blocks.specs.Laws.{AreBlank, IsPast, IsTimely, IsEmptied, IsBegun, IsFresh, IsHeader, IsCounted, AreBodiesSafe, IsFitting, Laws}
+use Rattle.qsg_blocks.specs.Laws.{AreBlank, IsPast, IsEmptied, IsBegun, IsFresh, IsHeader, AreBodiesSafe, IsFitting, Laws}
 use Rattle.qsg_blocks.specs.Changes.{Change}
 use Rattle.qsg_blocks.proofs.Standing.{blank_reserved, used_in-none, counts_if}
 use Rattle.qsg_blocks.proofs.Counted.{counted_stays}

@@ -1,37 +1,29 @@
 -- what a writer has written stays
-use Rattle.std.proofs.Common.{◌≡◌, ◌≢◌, ℕ, zero, suc, ◌+◌, ◌*◌, ◌-◌, ◌/◌, ◌<◌, ◌≤◌, min, max, Bool, true, false, List, [], ◌∷◌, ◌++◌, Option, Some, None, refl, sym, ap, ◌∙◌, arith, inl, inr, subst, length, take, drop, map, get_or, slice_set}
-use Rattle.std.specs.Prelude.{◌⊎◌, slice_get, slice_index_or, IfSome}
+use Rattle.std.proofs.Common.{◌≡◌, ℕ, zero, suc, ◌*◌, ◌<◌, ◌≤◌, true, List, [], ◌∷◌, refl, sym, ap, ◌∙◌, arith, inl, inr, subst, length, take, slice_set}
+use Rattle.std.specs.Prelude.{◌⊎◌, slice_index_or}
 use Rattle.std.specs.List.{AllByRecursion, AllZip}
-use Rattle.std.proofs.lemmas.Bool.{cases_eq, cases_Bool}
-use Rattle.std.proofs.lemmas.Grind.{get_or-set_at}
-use Rattle.std.proofs.lemmas.List.{get_or-set_other, length-take, length-drop, take-map, drop-map}
-use Rattle.std.proofs.Math.Seq.{take-length}
+use Rattle.std.proofs.lemmas.Bool.{cases_Bool}
+use Rattle.std.proofs.lemmas.List.{get_or-set_other}
 use Rattle.qsg_num.specs.declared.seats.Member.{Member}
 use Rattle.qsg_num.specs.declared.seats.TaskNo.{TaskNo}
 use Rattle.qsg_num.specs.declared.ids.Block.{Block}
-use Rattle.qsg_num.specs.Seats.{member_number, task_number}
-use Rattle.qsg_disk.specs.Byte.{Byte, values, part, synced, Beside, EachPair, IsKeptOrSynced}
-use Rattle.qsg_disk.proofs.Parts.{take-add}
-use Rattle.qsg_space.specs.Spaces.{free_blocks, free_count}
-use Rattle.qsg_space.proofs.Free.{length-free_from}
-use Rattle.qsg_dataset.specs.Contents.{Contents, offset_of, block_bytes}
+use Rattle.qsg_num.specs.Seats.{task_number}
+use Rattle.qsg_disk.specs.Byte.{Byte, Beside, EachPair, IsKeptOrSynced}
 use Rattle.qsg_datasets.specs.declared.member_data_set.Hand.{Hand}
-use Rattle.qsg_datasets.specs.Kept.{KeptSet, IsKept, no_hand, used_in, hand_of, with_hand, given, taken, given_back, freed}
+use Rattle.qsg_datasets.specs.Kept.{KeptSet, no_hand, hand_of, with_hand, given, taken, given_back, freed}
 use Rattle.qsg_datasets.specs.Calls.{IsStorageSame}
-use Rattle.qsg_lists.specs.declared.parts.Place.TheVariants.{Offloaded}
 use Rattle.qsg_group.specs.Tables.{at_member}
-use Rattle.qsg_group.proofs.Tables.{same_member, same_task, cases_member, cases_task, every_member, moved}
-use Rattle.qsg_blocks.specs.State.{Ground, IsThere, AreTold, stands, cells_at, body_at, blocks_for, uses, listed, holds, reserved}
-use Rattle.qsg_blocks.specs.Laws.{AreAlike, IsBlank, IsHeldBy, IsSafe, IsSafePlace, IsFitting, Laws}
-use Rattle.qsg_blocks.specs.Changes.{with_set, begun_set, without_map, blocks_of, handed_over, MayWrite, Change}
+use Rattle.qsg_group.proofs.Tables.{same_task, every_member, moved}
+use Rattle.qsg_blocks.specs.State.{Ground, AreTold, stands, cells_at, body_at, blocks_for, uses}
+use Rattle.qsg_blocks.specs.Laws.{AreAlike, IsBlank, IsHeldBy, IsSafe, IsFitting, Laws}
+use Rattle.qsg_blocks.specs.Changes.{begun_set, without_map, blocks_of, MayWrite, Change}
 use Rattle.qsg_blocks.specs.Changes.Change.{Rests, Takes, GivesBack, Writes, Syncs, Reads, PutsInside, PutsOutside, Revises, Forgets, Crashes, Stops, Maps, Saves, Starts, Loses, Begins, RestoresInside, RestoresOutside, Ends, Abandons}
 use Rattle.qsg_blocks.specs.Works.{Writer, FitsHand, FitsWrite, IsOthers}
-use Rattle.qsg_blocks.proofs.Counting.{uses-head, uses-tail, uses-take, has-used, holds-now, reserved-at, reserved-two, hands-at}
-use Rattle.qsg_blocks.proofs.Fitting.{set_at, task_within, same_sizes, alike_refl, length-used}
+use Rattle.qsg_blocks.proofs.Counting.{uses-take, has-used, holds-now, reserved-at, reserved-two, hands-at}
+use Rattle.qsg_blocks.proofs.Fitting.{same_sizes, alike_refl}
 use Rattle.qsg_blocks.proofs.Standing.{told_true, told_false, told_low}
 use Rattle.qsg_blocks.proofs.Counted.{apart}
-use Rattle.qsg_blocks.proofs.Bytes.{IsKeptByte, synced_kept, zip_refl, zip_mono, kept_values, kept_safe, synced_safe, safe_append, safe_take, safe_drop, cells_same, cells_zip, cells_each, cells_beside, cells_header}
-use Rattle.qsg_blocks.proofs.Reading.{values-append, cells-next}
+use Rattle.qsg_blocks.proofs.Bytes.{IsKeptByte, synced_kept, zip_refl, zip_mono, kept_values, kept_safe, cells_same, cells_each, cells_beside, cells_header}
 
 -- ---- sizes stay
 

@@ -1,6 +1,6 @@
 -- a writer's own steps
-use Rattle.std.proofs.Common.{◌≡◌, ◌≢◌, ℕ, zero, suc, ◌+◌, ◌*◌, ◌-◌, ◌/◌, ◌<◌, ◌≤◌, min, Bool, true, false, List, [], ◌∷◌, ◌++◌, Option, Some, None, refl, sym, ap, ◌∙◌, arith, inl, inr, subst, length, take, drop, map, get_or}
-use Rattle.std.specs.Prelude.{slice_get, slice_set, slice_index_or}
+use Rattle.std.proofs.Common.{◌≡◌, ℕ, zero, suc, ◌+◌, ◌*◌, ◌-◌, ◌<◌, ◌≤◌, min, true, false, List, [], ◌∷◌, ◌++◌, Some, refl, sym, ap, ◌∙◌, arith, inl, inr, subst, length, take, drop, map}
+use Rattle.std.specs.Prelude.{slice_get, slice_index_or}
 use Rattle.std.specs.List.{AllByRecursion, AllZip}
 use Rattle.std.proofs.lemmas.Bool.{cases_eq}
 use Rattle.std.proofs.lemmas.Grind.{get_or-set_at}
@@ -10,17 +10,17 @@ use Rattle.qsg_num.specs.declared.seats.Member.{Member}
 use Rattle.qsg_num.specs.declared.seats.TaskNo.{TaskNo}
 use Rattle.qsg_num.specs.declared.ids.Block.{Block}
 use Rattle.qsg_num.specs.Seats.{task_number}
-use Rattle.qsg_disk.specs.Byte.{Byte, values, part, synced, Beside}
+use Rattle.qsg_disk.specs.Byte.{Byte, values, part, synced}
 use Rattle.qsg_disk.proofs.Parts.{take-add}
-use Rattle.qsg_space.specs.Spaces.{free_blocks, free_count, marked}
+use Rattle.qsg_space.specs.Spaces.{free_blocks, free_count}
 use Rattle.qsg_space.proofs.Free.{length-free_from}
 use Rattle.qsg_dataset.specs.Contents.{Contents, offset_of, block_bytes}
 use Rattle.qsg_lists.specs.declared.parts.Place.TheVariants.{Offloaded}
 use Rattle.qsg_datasets.specs.declared.member_data_set.Hand.{Hand}
 use Rattle.qsg_datasets.specs.Kept.{KeptSet, IsKept, no_hand, used_in, hand_of, given, taken}
 use Rattle.qsg_datasets.specs.Calls.{IsStorageSame}
-use Rattle.qsg_blocks.specs.State.{Ground, IsThere, AreTold, cells_at, body_at, blocks_for, uses}
-use Rattle.qsg_blocks.specs.Laws.{AreAlike, IsSafe, IsSafePlace, IsFitting, Laws}
+use Rattle.qsg_blocks.specs.State.{Ground, AreTold, cells_at, body_at, blocks_for, uses}
+use Rattle.qsg_blocks.specs.Laws.{IsSafe, IsSafePlace, IsFitting, Laws}
 use Rattle.qsg_blocks.specs.Changes.{with_set, blocks_of, MayWrite}
 use Rattle.qsg_blocks.specs.Works.{Writer, FitsHand, FitsWrite}
 use Rattle.qsg_blocks.proofs.Counting.{uses-head, uses-tail}

@@ -1,5 +1,5 @@
 -- The shared actions that touch blocks and bodies: what each changes, and when it may come.
-use Rattle.std.specs.Prelude.{ℕ, ◌+◌, ◌<◌, ◌≤◌, ◌≡◌, ◌⊎◌, Bool, true, false, List, [], ◌∷◌, length, Option, Some, None, IfSome, replicate}
+use Rattle.std.specs.Prelude.{ℕ, ◌+◌, ◌<◌, ◌≤◌, ◌≡◌, ◌⊎◌, true, false, List, [], length, Option, Some, None, IfSome, replicate}
 use Rattle.std.specs.List.{AllByRecursion}
 use Rattle.qsg_num.specs.declared.seats.Member.{Member}
 use Rattle.qsg_num.specs.declared.seats.TaskNo.{TaskNo}
@@ -20,7 +20,7 @@ use Rattle.qsg_lists.specs.Settling.{deleted}
 use Rattle.qsg_lists.specs.Writing.{written, lost}
 use Rattle.qsg_lists.specs.Recovering.{begun, is_recovering, restored, recovered, abandoned}
 use Rattle.qsg_space.specs.Spaces.{has_block}
-use Rattle.qsg_dataset.specs.Contents.{Contents, IsShut, IsSame, offset_of}
+use Rattle.qsg_dataset.specs.Contents.{IsShut, IsSame, offset_of}
 use Rattle.qsg_datasets.specs.declared.member_data_set.Hand.{Hand}
 use Rattle.qsg_datasets.specs.declared.member_data_set.KeptMap.{KeptMap}
 use Rattle.qsg_datasets.specs.Kept.{KeptSet, IsKept, used_in, hand_of, with_hand, with_map, taken, given_back, freed}

@@ -1,5 +1,5 @@
 -- What holds between a work in progress and the blocks that it reads, writes or counts.
-use Rattle.std.specs.Prelude.{ℕ, ◌+◌, ◌*◌, ◌-◌, ◌<◌, ◌≤◌, ◌≡◌, ◌≢◌, ◌⊎◌, Bool, true, false, List, [], ◌∷◌, length, take, Option, Some, None, IfSome, if◌then◌else◌, nat_lt, option_map, min}
+use Rattle.std.specs.Prelude.{ℕ, ◌*◌, ◌≤◌, ◌≡◌, ◌≢◌, Bool, true, false, List, [], ◌∷◌, length, take, Option, Some, None, IfSome, if◌then◌else◌, nat_lt, option_map}
 use Rattle.std.specs.List.{AllByRecursion}
 use Rattle.qsg_num.specs.declared.seats.Member.{Member}
 use Rattle.qsg_num.specs.declared.seats.TaskNo.{TaskNo}
@@ -13,11 +13,10 @@ use Rattle.qsg_lists.specs.Entries.{entry_at}
 use Rattle.qsg_lists.specs.Structures.{is_active}
 use Rattle.qsg_dataset.specs.Headers.{spelling}
 use Rattle.qsg_dataset.specs.Contents.{rest_of, gate_of, gate_value, IsShut, IsReady}
-use Rattle.qsg_datasets.specs.declared.member_data_set.Hand.{Hand}
 use Rattle.qsg_datasets.specs.declared.member_data_set.KeptMap.{KeptMap}
 use Rattle.qsg_datasets.specs.Kept.{KeptSet, hand_of, used_in}
-use Rattle.qsg_blocks.specs.State.{Ground, IsThere, AreTold, cells_at, body_at, blocks_for, lists, tally, listed, used_once}
-use Rattle.qsg_blocks.specs.Laws.{IsPast, IsSafe, IsMapTrue, AreBlank}
+use Rattle.qsg_blocks.specs.State.{Ground, IsThere, cells_at, body_at, blocks_for, lists, tally, listed, used_once}
+use Rattle.qsg_blocks.specs.Laws.{IsPast, IsSafe, IsMapTrue}
 use Rattle.qsg_blocks.specs.Changes.{Change}
 use Rattle.qsg_blocks.specs.Changes.Change.{Takes, GivesBack, Writes, PutsOutside, RestoresOutside, Crashes, Stops, Maps, Saves, Starts}
 
