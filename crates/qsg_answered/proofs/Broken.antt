@@ -25,6 +25,7 @@ use Rattle.qsg_group.proofs.Tables.{cases_member, cases_task}
 use Rattle.qsg_manager.specs.declared.managers.Manager.{Manager}
 use Rattle.qsg_manager.specs.Storage.{manager_in, task_at}
 use Rattle.qsg_logs.specs.Kept.{KeptLog, log_in}
+use Rattle.qsg_datasets.specs.Kept.{KeptSet, sets_of}
 use Rattle.qsg_parts.specs.Owned.{Owned}
 use Rattle.qsg_steady.specs.Steady.{IsLawful}
 use Rattle.qsg_commit.specs.declared.phases.StepError.{StepError}
@@ -134,9 +135,9 @@ same_of : (x y : TaskNo) → task_number y ≡ task_number x → y ≡ x
 same_of x y e = elim (cases_task y x) [ inl same ↦ same | inr differ ↦ absurd (differ e) ]
 
 -- a task of the member that ends
-own_told : (m : Member) (log : KeptLog) (units : List Item) (room : ℕ) (ls : List KeptLog) (s : State) (cs : List Course) (t : TaskNo) → IsSound s → AreFitting s → member_number m ≤ length s.parts.managers → (manager_in m s.parts.managers).up ≡ true → Contains four t
-    → broken_in (answers_of (actor.Task m t) cs) ≡ broken_in (answers_of (actor.Task m t) (breaks m s.works (length s.parts.history.items) four s.courses)) → IsToldOnce m t s (record (after_end m log units room ls s) { courses = cs })
-own_told m log units room ls s cs t sound fits within up has same = by (work_of m t s.works) refl
+own_told : (m : Member) (log : KeptLog) (row : List KeptSet) (units : List Item) (room : ℕ) (ls : List KeptLog) (s : State) (cs : List Course) (t : TaskNo) → IsSound s → AreFitting s → member_number m ≤ length s.parts.managers → (manager_in m s.parts.managers).up ≡ true → Contains four t
+    → broken_in (answers_of (actor.Task m t) cs) ≡ broken_in (answers_of (actor.Task m t) (breaks m s.works (length s.parts.history.items) four s.courses)) → IsToldOnce m t s (record (after_end m log row units room ls s) { courses = cs })
+own_told m log row units room ls s cs t sound fits within up has same = by (work_of m t s.works) refl
   where
     p : Owned
     p = record s.parts { logs = ls }
@@ -145,7 +146,7 @@ own_told m log units room ls s cs t sound fits within up has same = by (work_of 
     at = length s.parts.history.items
 
     r : State
-    r = record (after_end m log units room ls s) { courses = cs }
+    r = record (after_end m log row units room ls s) { courses = cs }
 
     ends : has_ended m s r ≡ true
     ends = λ i. up i && not (ap (λ (x : Manager). x.up) (down_here m s.parts.managers within) i)
@@ -189,16 +190,16 @@ own_told m log units room ls s cs t sound fits within up has same = by (work_of 
             let none = more false (work false is) in
             omega (arith, same, course, due, none)
 
-end_told : (m : Member) (log : KeptLog) (units : List Item) (room : ℕ) (ls : List KeptLog) (s : State) (cs : List Course) (k : Member) (w : TaskNo) → IsSound s → AreFitting s → member_number m ≤ length s.parts.managers → (manager_in m s.parts.managers).up ≡ true → Contains four w
-    → broken_in (answers_of (actor.Task k w) cs) ≡ broken_in (answers_of (actor.Task k w) (breaks m s.works (length s.parts.history.items) four s.courses)) → IsToldOnce k w s (record (after_end m log units room ls s) { courses = cs })
-end_told m log units room ls s cs k w sound fits within up has same = by (cases_member m k)
+end_told : (m : Member) (log : KeptLog) (row : List KeptSet) (units : List Item) (room : ℕ) (ls : List KeptLog) (s : State) (cs : List Course) (k : Member) (w : TaskNo) → IsSound s → AreFitting s → member_number m ≤ length s.parts.managers → (manager_in m s.parts.managers).up ≡ true → Contains four w
+    → broken_in (answers_of (actor.Task k w) cs) ≡ broken_in (answers_of (actor.Task k w) (breaks m s.works (length s.parts.history.items) four s.courses)) → IsToldOnce k w s (record (after_end m log row units room ls s) { courses = cs })
+end_told m log row units room ls s cs k w sound fits within up has same = by (cases_member m k)
   where
-    by : (m ≡ k) ⊎ (member_number m ≡ member_number k → ⊥) → IsToldOnce k w s (record (after_end m log units room ls s) { courses = cs })
+    by : (m ≡ k) ⊎ (member_number m ≡ member_number k → ⊥) → IsToldOnce k w s (record (after_end m log row units room ls s) { courses = cs })
     by (inl is) =
-        subst (λ (x : Member). broken_in (answers_of (actor.Task x w) cs) ≡ broken_in (answers_of (actor.Task x w) (breaks m s.works (length s.parts.history.items) four s.courses)) → IsToldOnce x w s (record (after_end m log units room ls s) { courses = cs })) is
-        (λ here. own_told m log units room ls s cs w sound fits within up has here) same
+        subst (λ (x : Member). broken_in (answers_of (actor.Task x w) cs) ≡ broken_in (answers_of (actor.Task x w) (breaks m s.works (length s.parts.history.items) four s.courses)) → IsToldOnce x w s (record (after_end m log row units room ls s) { courses = cs })) is
+        (λ here. own_told m log row units room ls s cs w sound fits within up has here) same
     by (inr differ) =
-        untold k w s (record (after_end m log units room ls s) { courses = cs })
+        untold k w s (record (after_end m log row units room ls s) { courses = cs })
         (same ∙ ap (λ (o : Option Course). broken_in (answers_in o)) (courses_kept m s.works (length s.parts.history.items) four s.courses k w (λ x there e f. absurd (differ (sym e)))))
         (dues_kept m s.works (record s.parts { logs = ls }) four s.due k w (λ x there e f. absurd (differ (sym e))))
         (λ was. ap (λ (x : Manager). x.up) (down_other m k s.parts.managers (λ e. differ (sym e))) ∙ was)
@@ -206,7 +207,7 @@ end_told m log units room ls s cs k w sound fits within up has same = by (cases_
 ended_told : (m : Member) (ls : List KeptLog) (s r : State) (k : Member) (w : TaskNo) → IsSound s → AreFitting s → (manager_in m s.parts.managers).up ≡ true → Contains four w → IsEnd m (record s { parts = record s.parts { logs = ls } }) r → IsToldOnce k w s r
 ended_told m ls s r k w sound fits up has end =
     subst (IsToldOnce k w s) (sym (end_is m ls s r end))
-    (end_told m (log_in m r.parts.logs) (committed_by end.crash.left m (record s.parts { logs = ls })) r.parts.history.room ls s (breaks m s.works (length s.parts.history.items) four s.courses) k w sound fits (up_within m s up) up has refl)
+    (end_told m (log_in m r.parts.logs) (sets_of m r.parts.datasets) (committed_by end.crash.left m (record s.parts { logs = ls })) r.parts.history.room ls s (breaks m s.works (length s.parts.history.items) four s.courses) k w sound fits (up_within m s up) up has refl)
 
 -- ---- each step
 
@@ -272,7 +273,7 @@ crash_told s r m d k w sound fits has steps = by (is_member_up m s) refl steps
         let broken = breaks m s.works (length s.parts.history.items) four s.courses in
         let a = answer_to d reply.Done s in
         subst (IsToldOnce k w s) (sym (made.answered ∙ ap (λ (x : State). record x { courses = answered actor.Operator a x.courses }) (end_is m s.parts.logs s e end)))
-        (end_told m (log_in m e.parts.logs) (committed_by end.crash.left m s.parts) e.parts.history.room s.parts.logs s (answered actor.Operator a broken) k w sound fits (up_within m s up) up has (whole_answered actor.Operator (actor.Task k w) a broken refl))
+        (end_told m (log_in m e.parts.logs) (sets_of m e.parts.datasets) (committed_by end.crash.left m s.parts) e.parts.history.room s.parts.logs s (answered actor.Operator a broken) k w sound fits (up_within m s up) up has (whole_answered actor.Operator (actor.Task k w) a broken refl))
 
 start_ups : (turn : StartTurn) (m : Member) (s : State) (q : Owned) (k : Member) → StartMoves (start_before m s) s.parts turn q → (manager_in k s.parts.managers).up ≡ true → (manager_in k q.managers).up ≡ true
 start_ups More m s q k moved was = ap (λ (x : Owned). (manager_in k x.managers).up) moved.1 ∙ was

@@ -64,6 +64,7 @@ use Rattle.qsg_manager.specs.Seats.{with_down}
 use Rattle.qsg_manager.specs.Storage.{manager_in, task_in, task_at}
 use Rattle.qsg_manager.specs.Views.{held_of}
 use Rattle.qsg_logs.specs.Kept.{KeptLog, log_in}
+use Rattle.qsg_datasets.specs.Kept.{KeptSet, sets_of}
 use Rattle.qsg_parts.specs.Owned.{Owned}
 use Rattle.qsg_steady.specs.Steady.{IsLawful}
 use Rattle.qsg_crash.specs.Crashes.{unit_of, unit_at, latched_unit, committed_by, crashed}
@@ -237,11 +238,11 @@ abbrev pub cut_after : (UnitName → Bool) → Member → List (Option Work) →
 cut_after cut_off m works units u = cut_off u || (is_hit u m four works || is_unit u units)
 
 -- the parts, and the group, after the end
-abbrev pub parts_after : Member → KeptLog → List Item → ℕ → List KeptLog → State → Owned
-parts_after m log units room ls s = crashed m log units room (record s.parts { logs = ls })
+abbrev pub parts_after : Member → KeptLog → List KeptSet → List Item → ℕ → List KeptLog → State → Owned
+parts_after m log row units room ls s = crashed m log row units room (record s.parts { logs = ls })
 
-abbrev pub after_end : Member → KeptLog → List Item → ℕ → List KeptLog → State → State
-after_end m log units room ls s = ended m (parts_after m log units room ls s) (record s { parts = record s.parts { logs = ls } })
+abbrev pub after_end : Member → KeptLog → List KeptSet → List Item → ℕ → List KeptLog → State → State
+after_end m log row units room ls s = ended m (parts_after m log row units room ls s) (record s { parts = record s.parts { logs = ls } })
 
 -- requests in progress are what is asked for
 pub all_ask : (m : Member) (s : State) → IsSound s → (t : TaskNo) → Contains four t → AsksFor m t s.works s.courses
@@ -252,10 +253,10 @@ all_ask m s sound t has w is = by (work_of m t s.works) is (sound.hands m t)
     by (Some x) same hand = subst (λ (y : Work). IsAsked m t y s.courses) (same_Some x w same) hand.asked
 
 -- a COMMIT that was answered 2009 has its unit where the history has it by then
-broken_cut : (m : Member) (log : KeptLog) (units : List Item) (room : ℕ) (ls : List KeptLog) (s : State) (t : TaskNo) (u : UnitName) (w : Work) → u.member ≡ m → request_in w ≡ request.Commit
+broken_cut : (m : Member) (log : KeptLog) (row : List KeptSet) (units : List Item) (room : ℕ) (ls : List KeptLog) (s : State) (t : TaskNo) (u : UnitName) (w : Work) → u.member ≡ m → request_in w ≡ request.Commit
     → WasBrokenOff s.parts.objects m t w (length s.parts.history.items) s.courses (breaks m s.works (length s.parts.history.items) four s.courses)
-    → Contains (take (length s.parts.history.items + 1) (s.parts.history.items ++ units)) (UnitOf u (pending_of s.parts.objects m t s.courses)) → WasCutOff u (after_end m log units room ls s)
-broken_cut m log units room ls s t u w own commit off there = record {
+    → Contains (take (length s.parts.history.items + 1) (s.parts.history.items ++ units)) (UnitOf u (pending_of s.parts.objects m t s.courses)) → WasCutOff u (after_end m log row units room ls s)
+broken_cut m log row units room ls s t u w own commit off there = record {
   course = off.course;
   there = off.there;
   task = t;
@@ -280,35 +281,35 @@ broken_of m s p t w sound has is = broken_in s.parts.objects s.parts.history.ite
 worker : (m : Member) (s : State) (t : TaskNo) (w : Work) → IsSound s → work_of m t s.works ≡ Some w → Contains four t
 worker m s t w sound is = elim (in_four t) [ inl system ↦ absurd (none-some w (sym (ap (λ (x : TaskNo). work_of m x s.works) system ∙ sound.systems m) ∙ is)) | inr has ↦ has ]
 
-pub cut_then : (m : Member) (log : KeptLog) (units : List Item) (room : ℕ) (ls : List KeptLog) (s : State) → IsSound s → IsLawful s.parts → (fits : AreFitting s) → member_number m ≤ length s.parts.managers → Commits m s.parts units
-    → (u : UnitName) → cut_after fits.cut_off m s.works units u ≡ true → WasCutOff u (after_end m log units room ls s)
-cut_then m log units room ls s sound l fits within commits u cut = by (fits.cut_off u) refl cut
+pub cut_then : (m : Member) (log : KeptLog) (row : List KeptSet) (units : List Item) (room : ℕ) (ls : List KeptLog) (s : State) → IsSound s → IsLawful s.parts → (fits : AreFitting s) → member_number m ≤ length s.parts.managers → Commits m s.parts units
+    → (u : UnitName) → cut_after fits.cut_off m s.works units u ≡ true → WasCutOff u (after_end m log row units room ls s)
+cut_then m log row units room ls s sound l fits within commits u cut = by (fits.cut_off u) refl cut
   where
     h : List Item
     h = s.parts.history.items
 
-    hit : is_hit u m four s.works ≡ true → WasCutOff u (after_end m log units room ls s)
+    hit : is_hit u m four s.works ≡ true → WasCutOff u (after_end m log row units room ls s)
     hit is =
         let found = hit_at u m four s.works is in
         let c = committing s m found.0 u sound fits found.2 in
-        broken_cut m log units room ls s found.0 u c.there c.own c.commit (broken_of m s s.parts found.0 c.there sound found.1 c.is) (taken_old h units (UnitOf u (pending_of s.parts.objects m found.0 s.courses)) c.committed)
+        broken_cut m log row units room ls s found.0 u c.there c.own c.commit (broken_of m s s.parts found.0 c.there sound found.1 c.is) (taken_old h units (UnitOf u (pending_of s.parts.objects m found.0 s.courses)) c.committed)
 
-    added : Commits m s.parts units → is_unit u units ≡ true → WasCutOff u (after_end m log units room ls s)
+    added : Commits m s.parts units → is_unit u units ≡ true → WasCutOff u (after_end m log row units room ls s)
     added (inl none) is = absurd (true≢false (sym is ∙ ap (is_unit u) none))
     added (inr c) is =
         let same = same_name u c.unit (sym (or_false (same_unit u c.unit)) ∙ ap (is_unit u) (sym c.units_are) ∙ is) in
         let w = writes s m c.task c.unit sound fits within c.holds c.writes in
         let own = ap (λ (x : UnitName). x.member) same ∙ sound.steady.own m c.task c.unit c.holds in
         let units_are : units ≡ UnitOf u (pending_of s.parts.objects m c.task s.courses) ∷ [] = c.units_are ∙ (λ i. UnitOf (sym same i) (w.held i) ∷ []) in
-        broken_cut m log units room ls s c.task u w.there own w.commit (broken_of m s s.parts c.task w.there sound (worker m s c.task w.there sound w.is) w.is)
+        broken_cut m log row units room ls s c.task u w.there own w.commit (broken_of m s s.parts c.task w.there sound (worker m s c.task w.there sound w.is) w.is)
         (subst (λ (k : List Item). Contains (take (length h + 1) (h ++ k)) (UnitOf u (pending_of s.parts.objects m c.task s.courses))) (sym units_are) (taken_new h (UnitOf u (pending_of s.parts.objects m c.task s.courses))))
 
-    rest : (b : Bool) → is_hit u m four s.works ≡ b → (b || is_unit u units) ≡ true → WasCutOff u (after_end m log units room ls s)
+    rest : (b : Bool) → is_hit u m four s.works ≡ b → (b || is_unit u units) ≡ true → WasCutOff u (after_end m log row units room ls s)
     rest true is any = hit is
     rest false is any = added commits any
 
-    by : (b : Bool) → fits.cut_off u ≡ b → (b || (is_hit u m four s.works || is_unit u units)) ≡ true → WasCutOff u (after_end m log units room ls s)
-    by true is any = cut_stays s (after_end m log units room ls s) u units (carried_breaks s.parts.objects h s.parts m s.works (length h) four s.courses refl four_distinct (all_ask m s sound)).grown refl refl (fits.cut u is)
+    by : (b : Bool) → fits.cut_off u ≡ b → (b || (is_hit u m four s.works || is_unit u units)) ≡ true → WasCutOff u (after_end m log row units room ls s)
+    by true is any = cut_stays s (after_end m log row units room ls s) u units (carried_breaks s.parts.objects h s.parts m s.works (length h) four s.courses refl four_distinct (all_ask m s sound)).grown refl refl (fits.cut u is)
     by false is any = rest (is_hit u m four s.works) refl any
 
 -- ---- what tasks hold afterwards
@@ -358,9 +359,9 @@ ended_task : (m : Member) (t : TaskNo) (p : Owned) → member_number m ≤ lengt
 ended_task m t p within = ap (λ (x : Manager). task_in t x.tasks) (down_here m p.managers within) ∙ idle_in t
 
 -- one of the four tasks of the member
-worker_holds : (m : Member) (log : KeptLog) (units : List Item) (room : ℕ) (ls : List KeptLog) (s : State) (t : TaskNo) → IsSound s → AreFitting s → member_number m ≤ length s.parts.managers → Contains four t
-    → HoldsUnlessDue (is_due m t (after_end m log units room ls s).due) s.parts.objects (s.parts.history.items ++ units) (task_at m t (with_down m s.parts.managers)) (pending_of s.parts.objects m t (after_end m log units room ls s).courses) (work_of m t (after_end m log units room ls s).works)
-worker_holds m log units room ls s t sound fits within has = by (work_of m t s.works) refl
+worker_holds : (m : Member) (log : KeptLog) (row : List KeptSet) (units : List Item) (room : ℕ) (ls : List KeptLog) (s : State) (t : TaskNo) → IsSound s → AreFitting s → member_number m ≤ length s.parts.managers → Contains four t
+    → HoldsUnlessDue (is_due m t (after_end m log row units room ls s).due) s.parts.objects (s.parts.history.items ++ units) (task_at m t (with_down m s.parts.managers)) (pending_of s.parts.objects m t (after_end m log row units room ls s).courses) (work_of m t (after_end m log row units room ls s).works)
+worker_holds m log row units room ls s t sound fits within has = by (work_of m t s.works) refl
   where
     p : Owned
     p = record s.parts { logs = ls }
@@ -369,7 +370,7 @@ worker_holds m log units room ls s t sound fits within has = by (work_of m t s.w
     at = length s.parts.history.items
 
     r : State
-    r = after_end m log units room ls s
+    r = after_end m log row units room ls s
 
     free : work_of m t (drops m four s.works) ≡ None
     free = drops_gone m four s.works t sound.forty has
@@ -430,9 +431,9 @@ worker_holds m log units room ls s t sound fits within has = by (work_of m t s.w
             (idle_holds s.parts.objects (s.parts.history.items ++ units) (task_at m t (with_down m s.parts.managers)) (pending_of s.parts.objects m t (breaks m s.works at four s.courses)) (work_of m t (drops m four s.works)) is (same_pending idle_now ∙ sym same ∙ none) free)) (fits.tasks m t)
 
 -- the system task of the member has nothing
-system_holds : (m : Member) (log : KeptLog) (units : List Item) (room : ℕ) (ls : List KeptLog) (s : State) → IsSound s → AreFitting s → member_number m ≤ length s.parts.managers
-    → HoldsUnlessDue (is_due m task.System (after_end m log units room ls s).due) s.parts.objects (s.parts.history.items ++ units) (task_at m task.System (with_down m s.parts.managers)) (pending_of s.parts.objects m task.System (after_end m log units room ls s).courses) (work_of m task.System (after_end m log units room ls s).works)
-system_holds m log units room ls s sound fits within =
+system_holds : (m : Member) (log : KeptLog) (row : List KeptSet) (units : List Item) (room : ℕ) (ls : List KeptLog) (s : State) → IsSound s → AreFitting s → member_number m ≤ length s.parts.managers
+    → HoldsUnlessDue (is_due m task.System (after_end m log row units room ls s).due) s.parts.objects (s.parts.history.items ++ units) (task_at m task.System (with_down m s.parts.managers)) (pending_of s.parts.objects m task.System (after_end m log row units room ls s).courses) (work_of m task.System (after_end m log row units room ls s).works)
+system_holds m log row units room ls s sound fits within =
     let p = record s.parts { logs = ls } in
     let at = length s.parts.history.items in
     let t = task.System in
@@ -463,9 +464,9 @@ longer_holds false m units s k w sound l (inr c) differ holds =
     (holds_longer s.parts.objects s.parts.history.items c.unit (task_at m c.task s.parts.managers).ops (task_at k w s.parts.managers) (pending_of s.parts.objects k w s.courses) (work_of k w s.works)
     (hand_apart s m c.task k w c.unit (work_of k w s.works) sound l (λ e f. differ e) c.holds (sound.hands k w)) holds)
 
-other_member : (m : Member) (log : KeptLog) (units : List Item) (room : ℕ) (ls : List KeptLog) (s : State) (k : Member) (w : TaskNo) → IsSound s → IsLawful s.parts → AreFitting s → Commits m s.parts units → (member_number k ≡ member_number m → ⊥)
-    → HoldsUnlessDue (is_due k w (after_end m log units room ls s).due) s.parts.objects (s.parts.history.items ++ units) (task_at k w (with_down m s.parts.managers)) (pending_of s.parts.objects k w (after_end m log units room ls s).courses) (work_of k w (after_end m log units room ls s).works)
-other_member m log units room ls s k w sound l fits commits differ =
+other_member : (m : Member) (log : KeptLog) (row : List KeptSet) (units : List Item) (room : ℕ) (ls : List KeptLog) (s : State) (k : Member) (w : TaskNo) → IsSound s → IsLawful s.parts → AreFitting s → Commits m s.parts units → (member_number k ≡ member_number m → ⊥)
+    → HoldsUnlessDue (is_due k w (after_end m log row units room ls s).due) s.parts.objects (s.parts.history.items ++ units) (task_at k w (with_down m s.parts.managers)) (pending_of s.parts.objects k w (after_end m log row units room ls s).courses) (work_of k w (after_end m log row units room ls s).works)
+other_member m log row units room ls s k w sound l fits commits differ =
     let p = record s.parts { logs = ls } in
     let at = length s.parts.history.items in
     let due : is_due k w (dues m s.works p four s.due) ≡ is_due k w s.due = dues_kept m s.works p four s.due k w (λ x has e f. absurd (differ e)) in
@@ -477,16 +478,16 @@ other_member m log units room ls s k w sound l fits commits differ =
     (beside_holds (is_due k w s.due) s.parts.objects s.parts.objects (s.parts.history.items ++ units) (s.parts.history.items ++ units) (task_at k w s.parts.managers) (task_at k w (with_down m s.parts.managers)) (pending_of s.parts.objects k w s.courses)
     (pending_of s.parts.objects k w (breaks m s.works at four s.courses)) (work_of k w s.works) refl refl task pending (longer_holds (is_due k w s.due) m units s k w sound l commits differ (fits.tasks k w))))
 
-all_hold : (m : Member) (log : KeptLog) (units : List Item) (room : ℕ) (ls : List KeptLog) (s : State) (k : Member) (w : TaskNo) → IsSound s → IsLawful s.parts → AreFitting s → member_number m ≤ length s.parts.managers → Commits m s.parts units
-    → HoldsUnlessDue (is_due k w (after_end m log units room ls s).due) s.parts.objects (s.parts.history.items ++ units) (task_at k w (with_down m s.parts.managers)) (pending_of s.parts.objects k w (after_end m log units room ls s).courses) (work_of k w (after_end m log units room ls s).works)
-all_hold m log units room ls s k w sound l fits within commits = elim (cases_member k m) [
-  | inl same ↦ subst (λ (x : Member). HoldsUnlessDue (is_due x w (after_end m log units room ls s).due) s.parts.objects (s.parts.history.items ++ units) (task_at x w (with_down m s.parts.managers)) (pending_of s.parts.objects x w (after_end m log units room ls s).courses) (work_of x w (after_end m log units room ls s).works)) (sym same)
+all_hold : (m : Member) (log : KeptLog) (row : List KeptSet) (units : List Item) (room : ℕ) (ls : List KeptLog) (s : State) (k : Member) (w : TaskNo) → IsSound s → IsLawful s.parts → AreFitting s → member_number m ≤ length s.parts.managers → Commits m s.parts units
+    → HoldsUnlessDue (is_due k w (after_end m log row units room ls s).due) s.parts.objects (s.parts.history.items ++ units) (task_at k w (with_down m s.parts.managers)) (pending_of s.parts.objects k w (after_end m log row units room ls s).courses) (work_of k w (after_end m log row units room ls s).works)
+all_hold m log row units room ls s k w sound l fits within commits = elim (cases_member k m) [
+  | inl same ↦ subst (λ (x : Member). HoldsUnlessDue (is_due x w (after_end m log row units room ls s).due) s.parts.objects (s.parts.history.items ++ units) (task_at x w (with_down m s.parts.managers)) (pending_of s.parts.objects x w (after_end m log row units room ls s).courses) (work_of x w (after_end m log row units room ls s).works)) (sym same)
       (elim (in_four w) [
-        | inl system ↦ subst (λ (t : TaskNo). HoldsUnlessDue (is_due m t (after_end m log units room ls s).due) s.parts.objects (s.parts.history.items ++ units) (task_at m t (with_down m s.parts.managers)) (pending_of s.parts.objects m t (after_end m log units room ls s).courses) (work_of m t (after_end m log units room ls s).works)) (sym system)
-            (system_holds m log units room ls s sound fits within)
-        | inr has ↦ worker_holds m log units room ls s w sound fits within has
+        | inl system ↦ subst (λ (t : TaskNo). HoldsUnlessDue (is_due m t (after_end m log row units room ls s).due) s.parts.objects (s.parts.history.items ++ units) (task_at m t (with_down m s.parts.managers)) (pending_of s.parts.objects m t (after_end m log row units room ls s).courses) (work_of m t (after_end m log row units room ls s).works)) (sym system)
+            (system_holds m log row units room ls s sound fits within)
+        | inr has ↦ worker_holds m log row units room ls s w sound fits within has
       ])
-  | inr differ ↦ other_member m log units room ls s k w sound l fits commits differ
+  | inr differ ↦ other_member m log row units room ls s k w sound l fits commits differ
 ]
 
 -- ---- units that were backed out
@@ -505,8 +506,8 @@ unheld_down m p u within unheld k w holds = elim (cases_member k m) [
   | inr differ ↦ unheld k w (ap (λ (z : Task). z.unit) (sym (ap (λ (x : Manager). task_in w x.tasks) (down_other m k p.managers differ))) ∙ holds)
 ]
 
-out_then : (m : Member) (log : KeptLog) (units : List Item) (room : ℕ) (ls : List KeptLog) (s : State) (u : UnitName) → member_number m ≤ length s.parts.managers → Commits m s.parts units → IsLeftOut s.parts u → IsLeftOut (parts_after m log units room ls s) u
-out_then m log units room ls s u within commits out = record {
+out_then : (m : Member) (log : KeptLog) (row : List KeptSet) (units : List Item) (room : ℕ) (ls : List KeptLog) (s : State) (u : UnitName) → member_number m ≤ length s.parts.managers → Commits m s.parts units → IsLeftOut s.parts u → IsLeftOut (parts_after m log row units room ls s) u
+out_then m log row units room ls s u within commits out = record {
   out = by commits;
   drawn = drawn_down m s.parts.managers u.member u within out.drawn;
   unheld = unheld_down m s.parts u within out.unheld;
@@ -526,8 +527,8 @@ counted_push m (x ∷ rows) t of i settled counted = by (is_tally_of of i x) cou
     by true counted rest = counted
     by false counted rest = rest counted
 
-over_down : (m : Member) (log : KeptLog) (units : List Item) (room : ℕ) (ls : List KeptLog) (s : State) (life : FailedLife) → member_number m ≤ length s.parts.managers → IsOver life s.parts → IsOver life (parts_after m log units room ls s)
-over_down m log units room ls s life within over = elim (cases_member life.member m) [
+over_down : (m : Member) (log : KeptLog) (row : List KeptSet) (units : List Item) (room : ℕ) (ls : List KeptLog) (s : State) (life : FailedLife) → member_number m ≤ length s.parts.managers → IsOver life s.parts → IsOver life (parts_after m log row units room ls s)
+over_down m log row units room ls s life within over = elim (cases_member life.member m) [
   | inl same ↦
       let old = subst (λ (x : Member). HasEnded life.incarnation.number (seat_of (manager_in x s.parts.managers))) same over in
       subst (λ (x : Member). HasEnded life.incarnation.number (seat_of (manager_in x (with_down m s.parts.managers)))) (sym same)
@@ -535,10 +536,10 @@ over_down m log units room ls s life within over = elim (cases_member life.membe
   | inr differ ↦ subst (λ (x : Manager). HasEnded life.incarnation.number (seat_of x)) (sym (down_other m life.member s.parts.managers differ)) over
 ]
 
-goes_down : (k m : Member) (log : KeptLog) (units : List Item) (room : ℕ) (ls : List KeptLog) (s : State) (t : Tally) → member_number m ≤ length s.parts.managers → (manager_in m s.parts.managers).up ≡ true
-    → GoesOnFor k s.parts (parts_after m log units room ls s) s.tallies.rows (s.tallies.rows ++ t ∷ [])
-goes_down k m log units room ls s t within up = record {
-  over = λ life over. over_down m log units room ls s life within over;
+goes_down : (k m : Member) (log : KeptLog) (row : List KeptSet) (units : List Item) (room : ℕ) (ls : List KeptLog) (s : State) (t : Tally) → member_number m ≤ length s.parts.managers → (manager_in m s.parts.managers).up ≡ true
+    → GoesOnFor k s.parts (parts_after m log row units room ls s) s.tallies.rows (s.tallies.rows ++ t ∷ [])
+goes_down k m log row units room ls s t within up = record {
+  over = λ life over. over_down m log row units room ls s life within over;
   resolved = λ life over is. fails_unresolved life.member m life.incarnation (manager_in m s.parts.managers).incarnation s.parts.repo.lives (apart life over) ∙ is;
   counted = λ of i settled counted. counted_push k s.tallies.rows t of i settled counted;
 }
@@ -560,16 +561,16 @@ IsKeptOf k p rows n x = AllByRecursion (FitsSystem k p rows) x.answers × HasGiv
 ended_given_up : (x : Peer) → HasGivenUp (ended_peer x)
 ended_given_up x = record { before = x.answers; since = []; answers_are = sym (append-nil x.answers); given_up_is = refl }
 
-system_ends : (k m : Member) (log : KeptLog) (units : List Item) (room : ℕ) (ls : List KeptLog) (s : State) → AreFitting s → member_number m ≤ length s.parts.managers → (manager_in m s.parts.managers).up ≡ true → IsSystemFitting k (after_end m log units room ls s)
-system_ends k m log units room ls s fits within up =
-    let q = parts_after m log units room ls s in
+system_ends : (k m : Member) (log : KeptLog) (row : List KeptSet) (units : List Item) (room : ℕ) (ls : List KeptLog) (s : State) → AreFitting s → member_number m ≤ length s.parts.managers → (manager_in m s.parts.managers).up ≡ true → IsSystemFitting k (after_end m log row units room ls s)
+system_ends k m log row units room ls s fits within up =
+    let q = parts_after m log row units room ls s in
     let i = (manager_in m s.parts.managers).incarnation in
     let t = new_tally m i (marks_of m i s.parts.structures) in
     let rows = s.tallies.rows ++ t ∷ [] in
     let n = length (s.parts.history.items ++ units) in
     let own = fits.systems k in
     let grows : length s.parts.history.items ≤ n = omega (arith, length-append s.parts.history.items units) in
-    let answers = systems_stay k s.parts q s.tallies.rows rows (peer_of k s.peers).answers (goes_down k m log units room ls s t within up) own.answers in
+    let answers = systems_stay k s.parts q s.tallies.rows rows (peer_of k s.peers).answers (goes_down k m log row units room ls s t within up) own.answers in
     let timed = timed_more 0 (length s.parts.history.items) n (peer_of k s.peers).answers grows own.timed in
     let kept = set_or (IsKeptOf k q rows n) s.peers (member_number m - 1) (member_number k - 1) (ended_peer (peer_of m s.peers)) new_peer
     (λ same.
@@ -682,13 +683,13 @@ cut_works m units s u k msg t sound l fits commits own holds due there = by (was
         let works = works_there u k units task_now.ops (subst (λ (x : List Item). Contains x (UnitOf u task_now.ops)) (sym units_are) (at_head (UnitOf u task_now.ops) [])) keys in
         (λ i. or_right (fits.cut_off u) (is_hit u m four s.works || is_unit u units) (or_right (is_hit u m four s.works) (is_unit u units) named) i && (list_any-append (works_on u k) h units ∙ or_right (list_any (works_on u k) h) (list_any (works_on u k) units) works) i)
 
-told_then : (m : Member) (log : KeptLog) (units : List Item) (room : ℕ) (ls : List KeptLog) (s : State) → IsSound s → IsLawful s.parts → (fits : AreFitting s) → member_number m ≤ length s.parts.managers → (manager_in m s.parts.managers).up ≡ true → Commits m s.parts units
-    → (x : StructNo) → AllByRecursion (IsToldOf (is_told_of (cut_after fits.cut_off m s.works units) (parts_after m log units room ls s)) (structure_number x)) (structure_in x s.parts.structures).entries
-told_then m log units room ls s sound l fits within up commits x =
+told_then : (m : Member) (log : KeptLog) (row : List KeptSet) (units : List Item) (room : ℕ) (ls : List KeptLog) (s : State) → IsSound s → IsLawful s.parts → (fits : AreFitting s) → member_number m ≤ length s.parts.managers → (manager_in m s.parts.managers).up ≡ true → Commits m s.parts units
+    → (x : StructNo) → AllByRecursion (IsToldOf (is_told_of (cut_after fits.cut_off m s.works units) (parts_after m log row units room ls s)) (structure_number x)) (structure_in x s.parts.structures).entries
+told_then m log row units room ls s sound l fits within up commits x =
     told_by_found f (structure_number x) es (IsToldOf (is_told_of fits.cut_off s.parts) (structure_number x)) (sound.ordered.ordered x) (fits.told x) (λ e at old. mark_by e e.mark refl at old)
   where
     q : Owned
-    q = parts_after m log units room ls s
+    q = parts_after m log row units room ls s
 
     es : List Entry
     es = (structure_in x s.parts.structures).entries
@@ -753,9 +754,9 @@ told_then m log units room ls s sound l fits within up commits x =
 
 -- ---- the group
 
-once_then : (m : Member) (log : KeptLog) (units : List Item) (room : ℕ) (ls : List KeptLog) (s : State) → IsSound s → IsLawful s.parts → (fits : AreFitting s) → Commits m s.parts units → (u : UnitName)
+once_then : (m : Member) (log : KeptLog) (row : List KeptSet) (units : List Item) (room : ℕ) (ls : List KeptLog) (s : State) → IsSound s → IsLawful s.parts → (fits : AreFitting s) → Commits m s.parts units → (u : UnitName)
     → sum_by (commits_in u) (breaks m s.works (length s.parts.history.items) four s.courses) + count_by (commits_now u) (drops m four s.works) + one_if (cut_after fits.cut_off m s.works units u) ≡ named_in u (s.parts.history.items ++ units)
-once_then m log units room ls s sound l fits commits u =
+once_then m log row units room ls s sound l fits commits u =
     let h = s.parts.history.items in
     let sums = (carried_breaks s.parts.objects h s.parts m s.works (length h) four s.courses refl four_distinct (all_ask m s sound)).commits u in
     let works = counted_drops u m four s.works sound.forty four_distinct in
@@ -776,15 +777,15 @@ given_then m k ms n within given here =
     ]
 
 -- The end of a member, and further answers: those of its operator, if a CRASH brought it.
-pub end_fits : (m : Member) (log : KeptLog) (units : List Item) (room : ℕ) (ls : List KeptLog) (s : State) (cs : List Course) → IsSound s → IsLawful s.parts → AreFitting s → member_number m ≤ length s.parts.managers → (manager_in m s.parts.managers).up ≡ true → Commits m s.parts units
-    → IsCarried s.parts.objects s.parts.history.items (parts_after m log units room ls s) (breaks m s.works (length s.parts.history.items) four s.courses) cs
+pub end_fits : (m : Member) (log : KeptLog) (row : List KeptSet) (units : List Item) (room : ℕ) (ls : List KeptLog) (s : State) (cs : List Course) → IsSound s → IsLawful s.parts → AreFitting s → member_number m ≤ length s.parts.managers → (manager_in m s.parts.managers).up ≡ true → Commits m s.parts units
+    → IsCarried s.parts.objects s.parts.history.items (parts_after m log row units room ls s) (breaks m s.works (length s.parts.history.items) four s.courses) cs
     → ((k : Member) (w : TaskNo) → pending_of s.parts.objects k w cs ≡ pending_of s.parts.objects k w (breaks m s.works (length s.parts.history.items) four s.courses))
     → ((k : Member) → sum_by (starts_in k) cs ≡ sum_by (starts_in k) (breaks m s.works (length s.parts.history.items) four s.courses))
-    → AreFitting (record (after_end m log units room ls s) { courses = cs })
-end_fits m log units room ls s cs sound l fits within up commits extra pendings starting =
+    → AreFitting (record (after_end m log row units room ls s) { courses = cs })
+end_fits m log row units room ls s cs sound l fits within up commits extra pendings starting =
     let p = s.parts in
-    let q = parts_after m log units room ls s in
-    let r = after_end m log units room ls s in
+    let q = parts_after m log row units room ls s in
+    let r = after_end m log row units room ls s in
     let h = p.history.items in
     let at = length h in
     let ask = all_ask m s sound in
@@ -792,17 +793,17 @@ end_fits m log units room ls s cs sound l fits within up commits extra pendings 
     let short = carried_breaks p.objects h q m s.works at four s.courses refl four_distinct ask in
     record {
       answers = all_more (FitsCourse p.objects h) (FitsCourse p.objects (h ++ units)) cs (λ c. fits_longer p.objects h units c) (extra.fits (short.fits fits.answers));
-      tasks = λ k w. subst (λ (ops : List (StructNo × Op)). HoldsUnlessDue (is_due k w r.due) p.objects (h ++ units) (task_at k w (with_down m p.managers)) ops (work_of k w r.works)) (sym (pendings k w)) (all_hold m log units room ls s k w sound l fits within commits);
+      tasks = λ k w. subst (λ (ops : List (StructNo × Op)). HoldsUnlessDue (is_due k w r.due) p.objects (h ++ units) (task_at k w (with_down m p.managers)) ops (work_of k w r.works)) (sym (pendings k w)) (all_hold m log row units room ls s k w sound l fits within commits);
       none = λ k. pendings k task.System ∙ ap (pending_in p.objects) (courses_kept m s.works at four s.courses k task.System (λ x has e f. absurd (system_apart x has f))) ∙ fits.none k;
-      left_out = extra.out (short.out (all_more (LeavesOut p) (LeavesOut q) s.courses (λ c each. told_out p q c.actor (told c) (λ u out. out_then m log units room ls s u within commits out) each) fits.left_out));
+      left_out = extra.out (short.out (all_more (LeavesOut p) (LeavesOut q) s.courses (λ c each. told_out p q c.actor (told c) (λ u out. out_then m log row units room ls s u within commits out) each) fits.left_out));
       cut_off = cut_after fits.cut_off m s.works units;
-      cut = λ u is. cut_stays r (record r { courses = cs }) u [] extra.grown refl (sym (append-nil (h ++ units))) (cut_then m log units room ls s sound l fits within commits u is);
-      once = λ u. let sums = extra.commits u in let law = once_then m log units room ls s sound l fits commits u in omega (arith, sums, law);
+      cut = λ u is. cut_stays r (record r { courses = cs }) u [] extra.grown refl (sym (append-nil (h ++ units))) (cut_then m log row units room ls s sound l fits within commits u is);
+      once = λ u. let sums = extra.commits u in let law = once_then m log row units room ls s sound l fits commits u in omega (arith, sums, law);
       inside = fits.inside;
-      told = told_then m log units room ls s sound l fits within up commits;
+      told = told_then m log row units room ls s sound l fits within up commits;
       timed = all_timed at (length (h ++ units)) cs (omega (arith, length-append h units)) (extra.timed at refl (short.timed at refl fits.timed));
       given = λ k here. given_then m k p.managers (1 + sum_by (starts_in k) cs) within (λ w. fits.given k w ∙ ap (λ (n : ℕ). 1 + n) (sym (starting k ∙ starts_breaks k m s.works at four s.courses four_distinct ask))) here;
-      systems = λ k. let own = system_ends k m log units room ls s fits within up in record { answers = own.answers; given_up = own.given_up; timed = own.timed };
+      systems = λ k. let own = system_ends k m log row units room ls s fits within up in record { answers = own.answers; given_up = own.given_up; timed = own.timed };
     }
   where
     system_apart : (x : TaskNo) → Contains four x → task_number task.System ≡ task_number x → ⊥
@@ -818,7 +819,7 @@ commits_same m s ls units (inr c) = inr (record { task = c.task; unit = c.unit; 
 
 -- what an end leaves
 pub end_is : (m : Member) (ls : List KeptLog) (s r : State) (end : IsEnd m (record s { parts = record s.parts { logs = ls } }) r)
-    → r ≡ after_end m (log_in m r.parts.logs) (committed_by end.crash.left m (record s.parts { logs = ls })) r.parts.history.room ls s
+    → r ≡ after_end m (log_in m r.parts.logs) (sets_of m r.parts.datasets) (committed_by end.crash.left m (record s.parts { logs = ls })) r.parts.history.room ls s
 end_is m ls s r end = end.after ∙ ap (λ (x : Owned). ended m x (record s { parts = record s.parts { logs = ls } })) end.crash.parts
 
 -- an end whose log failed
@@ -826,11 +827,12 @@ pub ended_fits : (m : Member) (ls : List KeptLog) (s r : State) → IsSound s �
 ended_fits m ls s r sound l fits within up end =
     let p = record s.parts { logs = ls } in
     let log = log_in m r.parts.logs in
+    let row = sets_of m r.parts.datasets in
     let units = committed_by end.crash.left m p in
     let room = r.parts.history.room in
     let broken = breaks m s.works (length s.parts.history.items) four s.courses in
     subst AreFitting (sym (end_is m ls s r end))
-    (end_fits m log units room ls s broken sound l fits within up (commits_same m s ls units (cut_commits end.crash.left m p)) (carried_self s.parts.objects s.parts.history.items (parts_after m log units room ls s) broken) (λ k w. refl) (λ k. refl))
+    (end_fits m log row units room ls s broken sound l fits within up (commits_same m s ls units (cut_commits end.crash.left m p)) (carried_self s.parts.objects s.parts.history.items (parts_after m log row units room ls s) broken) (λ k w. refl) (λ k. refl))
 
 -- a CRASH, which the operator is told is done
 pub crash_fits : (m : Member) (d : Directive) (pick : ℕ) (s e r : State) → IsSound s → IsLawful s.parts → AreFitting s → member_number m ≤ length s.parts.managers → (manager_in m s.parts.managers).up ≡ true → next_of actor.Operator s.courses ≡ Some d → asked actor.Operator d ≡ asks.Crash m pick
@@ -839,18 +841,19 @@ crash_fits m d pick s e r sound l fits within up next is end after =
     let ls = s.parts.logs in
     let p = s.parts in
     let log = log_in m e.parts.logs in
+    let row = sets_of m e.parts.datasets in
     let units = committed_by end.crash.left m p in
     let room = e.parts.history.room in
     let h = p.history.items in
     let broken = breaks m s.works (length h) four s.courses in
     let a = answer_to d reply.Done s in
-    let q = parts_after m log units room ls s in
+    let q = parts_after m log row units room ls s in
     let still : next_of actor.Operator broken ≡ Some d = ap (option_and_then next_in) (operator_kept m s.works (length h) four s.courses) ∙ next in
     let found = next_is actor.Operator d broken still in
     let done : EndsOther (asked actor.Operator d) reply.Done = subst (λ (x : Asked). EndsOther x reply.Done) (sym is) tt in
     let zero : (k : Member) → starts k (asked actor.Operator d) reply.Done ≡ false = λ k. ap (λ (x : Asked). starts k x reply.Done) is in
     subst AreFitting (sym (after ∙ ap (λ (x : State). record x { courses = answered actor.Operator a x.courses }) (end_is m ls s e end)))
-    (end_fits m log units room ls s (answered actor.Operator a broken) sound l fits within up (cut_commits end.crash.left m p)
+    (end_fits m log row units room ls s (answered actor.Operator a broken) sound l fits within up (cut_commits end.crash.left m p)
     (carried_other p.objects h q actor.Operator d a found.0 broken found.1 refl refl done)
     (λ k w. pending_stays p.objects actor.Operator d a found.0 broken k w found.1 refl)
     (λ k. let more = starts_answered k actor.Operator d a found.0 broken found.1 in let none = ap one_if (zero k) in omega (arith, more, none)))

@@ -81,6 +81,7 @@ reason_text labels reason.UnknownObject = codes " 2085"
 reason_text labels (reason.StorageFull place need free) = codes " 2192" ++ short_text place ++ need_text need free
 reason_text labels reason.StructureFailed = codes " 2373"
 reason_text labels (reason.NoLog need free) = codes " NOLOG" ++ need_text need free
+reason_text labels reason.DataSetFault = codes " DSFAULT"
 reason_text labels reason.Down = codes " DOWN"
 reason_text labels reason.Up = codes " UP"
 reason_text labels (reason.LogFault m why) = codes " LOGFAULT " ++ member_text labels m ++ why_text why

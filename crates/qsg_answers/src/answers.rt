@@ -125,6 +125,7 @@ fn push_reason(out: &mut Vec<u8>, labels: &Labels, reason: Reason) -> Result<(),
             push_text(out, b" NOLOG")?;
             push_need(out, need, free)
         }
+        Reason::DataSetFault => push_text(out, b" DSFAULT"),
         Reason::Down => push_text(out, b" DOWN"),
         Reason::Up => push_text(out, b" UP"),
         Reason::LogFault { member, why } => {

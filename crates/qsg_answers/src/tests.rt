@@ -185,3 +185,20 @@ fn system_tasks(rt: HostRuntime) -> Result<(), Fail> {
     );
     Ok(())
 }
+
+#[test]
+fn data_sets_that_fail_and_members_that_stop(rt: HostRuntime) -> Result<(), Fail> {
+    let labels = labels(rt.alloc())?;
+    let answers = vec![in rt.alloc();
+        answer(Verb::Put, Reply::Refused(Reason::DataSetFault)),
+        answer(Verb::Stop, Reply::Done),
+    ]?;
+    let mut out = Vec::new(rt.alloc());
+    push_answers(&mut out, &labels, answers.as_slice())?;
+    push_cause(&mut out, &labels, Cause::Quiescing(TaskNo::Two))?;
+    assert_eq!(rt;
+        out.as_slice(),
+        b"1 PUT DSFAULT\n2 STOP OK\nquiescing 2".as_slice()
+    );
+    Ok(())
+}

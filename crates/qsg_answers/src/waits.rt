@@ -34,6 +34,7 @@ pub fn push_cause(out: &mut Vec<u8>, labels: &Labels, cause: Cause) -> Result<()
             push_actor(out, labels, actor)?;
             push_counted(out, b" ", u64::from(count))
         }
+        Cause::Quiescing(task) => push_counted(out, b"quiescing ", u64::from(task.get())),
         Cause::Reading(member, task) => {
             push_text(out, b"reading ")?;
             push_actor(out, labels, Actor::Task(member, task))

@@ -9,6 +9,7 @@ ghost use Rattle.qsg_logs.specs.Kept.{log_in};
 ghost use Rattle.qsg_logs.specs.Writers.{new_writer};
 
 use crate::CommitWork;
+use qsg_datasets::DataSets;
 use qsg_disk_mem::MemDisk;
 use qsg_group::{Claim, Claims, Stage, Task};
 use qsg_lists::{Connection, Structure};
@@ -77,6 +78,7 @@ fn parts(alloc: Global) -> Option<Parts<MemDisk>>
         structures: structures(alloc)?,
         managers: managers(alloc)?,
         logs: logs(alloc)?,
+        datasets: DataSets::from_vec(Vec::new(alloc)),
         repo: Repo::new(alloc, 1, 1, [false; 4], 1).ok()?,
         objects: Objects::new(alloc),
         history: History::new(alloc),

@@ -47,15 +47,17 @@ fn commit<D: Disk>(alloc: Global, parts: &mut Parts<D>, member: Member)
     }
 }
 
-/// A member that is up crashes. Its log loses its power, and `pick` says what that leaves of the bytes that weren't safe;
-/// a unit whose last page was in hand is in the history exactly where the cut left that page whole. The member's tasks
-/// hold nothing then, it is down, and its incarnation is failed and unresolved. Takes no memory.
+/// A member that is up crashes. Its log and its data sets lose their power, and `pick` says what that leaves of the bytes
+/// that weren't safe; a unit whose last page was in hand is in the history exactly where the cut left that page whole. The
+/// member's tasks hold nothing then, it keeps no map and no blocks of its data sets, it is down, and its incarnation is
+/// failed and unresolved. Takes no memory.
 pub fn crash<D: Disk>(alloc: Global, parts: &mut Parts<D>, member: Member, pick: u64)
     requires may { MayCrash member (owned parts.old) }
     ensures { IsCrash member (owned parts.old) (owned parts.new) }
 {
     let last = is_last(parts, member);
     let left = parts.logs.cut(member, pick);
+    parts.datasets.cut(alloc, member, pick);
     if last && left {
         commit(alloc, parts, member);
     }

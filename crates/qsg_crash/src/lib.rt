@@ -1,4 +1,5 @@
-//! The crash of a member, in one step: the power of its log is cut, its storage is gone, and the repository is told.
+//! The crash of a member, in one step: the power of its log and its data sets is cut, its storage is gone, and the
+//! repository is told.
 //!
 //! - `crashing`: the step.
 //! - `laws`: what it leaves of all other members.

@@ -2,10 +2,13 @@
 
 ghost use Rattle.std.specs.Prelude.{◌≡◌, ◌<◌, length, IfSome};
 ghost use Rattle.qsg_num.specs.declared.seats.Member.TheVariants as member;
+ghost use Rattle.qsg_disk_mem.specs.Mem.{cells_in};
 ghost use Rattle.qsg_logs.specs.Kept.{log_in};
 ghost use Rattle.qsg_logs.specs.Writers.{new_writer};
 
 use crate::crash;
+use qsg_dataset::DataSet;
+use qsg_datasets::{DataSets, MemberDataSet, MemberDataSets};
 use qsg_disk_mem::MemDisk;
 use qsg_group::{Claims, Stage, Task};
 use qsg_logs::{Logs, MemberLog};
@@ -21,6 +24,9 @@ use std::alloc::Global;
 use std::test::*;
 
 const FIRST: Incarnation = Incarnation { number: 1 };
+
+/// The epoch of the structure.
+const EPOCH: u32 = 3;
 
 const UNIT: UnitName = UnitName {
     member: Member::One,
@@ -104,10 +110,48 @@ fn logs_in_hand(alloc: Global) -> Option<Logs<MemDisk>>
     Some(logs)
 }
 
+/// A device for a data set of four blocks of 512 bytes.
+fn device(alloc: Global) -> Option<MemDisk>
+    ensures { IfSome result (λ d. length (cells_in d) ≡ 6144) }
+{
+    MemDisk::new(alloc, 6_144, Vec::new(alloc)).ok()
+}
+
+/// That data set, which was never used.
+fn data_set(alloc: Global) -> Option<MemberDataSet<MemDisk>> {
+    let device = device(alloc)?;
+    MemberDataSet::new(alloc, DataSet::new(device, 512)).ok()
+}
+
+/// The data set of that member, with a map for the epoch, from which the task has taken a block.
+fn datasets(alloc: Global) -> Option<DataSets<MemDisk>>
+    ensures { IfSome result (λ d. length d ≡ 1) }
+{
+    let mut set = data_set(alloc)?;
+    set.take(alloc, TaskNo::One, EPOCH, 1).ok()?;
+    let mut sets = Vec::new(alloc);
+    sets.push(set).ok()?;
+    let mut rows = Vec::new(alloc);
+    rows.push(MemberDataSets::from_vec(sets)).ok()?;
+    Some(DataSets::from_vec(rows))
+}
+
+/// Whether the map stands, and how many blocks the task has taken.
+fn kept(datasets: DataSets<MemDisk>) -> Option<(bool, usize)> {
+    let mut rows = datasets.into_vec();
+    let mut sets = rows.pop()?.into_vec();
+    let set = sets.pop()?;
+    Some((
+        set.stands(EPOCH),
+        set.hand(TaskNo::One).blocks.as_slice().len(),
+    ))
+}
+
 /// A group of that member.
 fn parts(alloc: Global) -> Option<Parts<MemDisk>>
     ensures managers { IfSome result (λ p. length p.managers ≡ 1) }
     ensures logs { IfSome result (λ p. length p.logs ≡ 1) }
+    ensures datasets { IfSome result (λ p. length p.datasets ≡ 1) }
     ensures room { IfSome result (λ p. 0 < p.history.room) }
 {
     let mut history = History::new(alloc);
@@ -118,6 +162,7 @@ fn parts(alloc: Global) -> Option<Parts<MemDisk>>
         structures: Structures::from_vec(Vec::new(alloc)),
         managers: managers(alloc)?,
         logs: logs_in_hand(alloc)?,
+        datasets: datasets(alloc)?,
         repo,
         objects: Objects::new(alloc),
         history,
@@ -145,4 +190,15 @@ fn a_unit_is_committed_where_the_cut_left_its_page(rt: HostRuntime) {
     let alloc = rt.alloc();
     assert_eq!(rt; crashed(alloc, 1), Some((1, 1, true)));
     assert_eq!(rt; crashed(alloc, 0), Some((0, 0, true)));
+}
+
+#[test]
+fn a_member_keeps_nothing_of_its_data_sets(rt: HostRuntime) {
+    let alloc = rt.alloc();
+    assert_eq!(rt; datasets(alloc).and_then(kept), Some((true, 1)));
+    let after = parts(alloc).and_then(|mut parts| {
+        crash(alloc, &mut parts, Member::One, 1);
+        kept(parts.datasets)
+    });
+    assert_eq!(rt; after, Some((false, 0)));
 }

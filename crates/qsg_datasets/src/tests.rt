@@ -1,10 +1,11 @@
 //! A small data set, with each call of it, and those of a group.
 
-ghost use Rattle.std.specs.Prelude.{◌≡◌, length, IfSome};
+ghost use Rattle.std.specs.Prelude.{◌≡◌, length, IfSome, OnOk, OnErr};
 ghost use Rattle.qsg_num.specs.declared.seats.Member.TheVariants as member;
-ghost use Rattle.qsg_num.specs.declared.seats.StructNo.TheVariants as structure;
+ghost use Rattle.qsg_num.specs.declared.seats.StructNo.TheVariants as structures;
+ghost use Rattle.qsg_num.specs.declared.seats.TaskNo.TheVariants as task;
 ghost use Rattle.qsg_disk_mem.specs.Mem.{cells_in};
-ghost use Rattle.qsg_datasets.specs.Kept.{HasSet};
+ghost use Rattle.qsg_datasets.specs.Kept.{HasSet, set_in, with_set, taken};
 
 use super::*;
 use qsg_dataset::DataSet;
@@ -179,8 +180,8 @@ fn bodies_are_written(rt: HostRuntime) -> Result<(), Fail> {
 
 /// Of one member, those for two structures.
 fn one_member(alloc: Global) -> Option<DataSets<MemDisk>>
-    ensures first { IfSome result (HasSet member.One structure.One) }
-    ensures second { IfSome result (HasSet member.One structure.Two) }
+    ensures first { IfSome result (HasSet member.One structures.One) }
+    ensures second { IfSome result (HasSet member.One structures.Two) }
 {
     let mut sets = Vec::new(alloc);
     sets.push(four(alloc)?).ok()?;
@@ -198,21 +199,34 @@ fn members_have_data_sets(rt: HostRuntime) -> Result<(), Fail> {
         assert!(rt; false);
         return Ok(());
     };
-    let first = sets.set_mut(Member::One, StructNo::One);
-    assert_eq!(rt; first.take(alloc, TaskNo::One, EPOCH, 2), Ok(()));
+    assert_eq!(rt; take(alloc, &mut sets, StructNo::One, 2), Ok(()));
     assert_eq!(rt; used(&sets), [2, 0]);
-    let second = sets.set_mut(Member::One, StructNo::Two);
-    assert_eq!(rt; second.take(alloc, TaskNo::One, EPOCH, 4), Ok(()));
+    assert_eq!(rt; take(alloc, &mut sets, StructNo::Two, 4), Ok(()));
     assert_eq!(rt; used(&sets), [2, 4]);
     sets.cut(alloc, Member::One, 7);
     assert_eq!(rt; used(&sets), [0, 0]);
     Ok(())
 }
 
+/// A call on one data set, through the whole of them.
+fn take(
+    alloc: Global,
+    sets: &mut DataSets<MemDisk>,
+    structure: StructNo,
+    n: u32,
+) -> Result<(), TakeError>
+    requires { HasSet member.One structure sets.old }
+    ensures taken { OnOk result (sets.new ≡ with_set member.One structure (taken task.One EPOCH n (set_in member.One structure sets.old)) sets.old) }
+    ensures unchanged { OnErr result (sets.new ≡ sets.old) }
+{
+    let set = sets.set_mut(Member::One, structure);
+    set.take(alloc, TaskNo::One, EPOCH, n)
+}
+
 /// Used blocks of both data sets.
 fn used(sets: &DataSets<MemDisk>) -> [u32; 2]
-    requires first { HasSet member.One structure.One sets.now }
-    requires second { HasSet member.One structure.Two sets.now }
+    requires first { HasSet member.One structures.One sets.now }
+    requires second { HasSet member.One structures.Two sets.now }
 {
     [
         sets.set(Member::One, StructNo::One).used(EPOCH),

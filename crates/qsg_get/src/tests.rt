@@ -13,6 +13,7 @@ ghost use Rattle.qsg_parts.specs.Owned.{owned};
 ghost use Rattle.qsg_get.specs.Needs.{MayStep, MayPass};
 
 use crate::{GetWork, Terms, a_get_that_goes_on_may_go_on, check};
+use qsg_datasets::DataSets;
 use qsg_disk_mem::MemDisk;
 use qsg_lists::{Connection, Head, Place, Selector, Structure};
 use qsg_logs::{Logs, MemberLog};
@@ -156,6 +157,7 @@ fn group(alloc: Global, select: Selector) -> Result<Option<(Parts<MemDisk>, GetW
         structures: structures(alloc, [1; 24])?,
         managers: managers(alloc)?,
         logs: logs(alloc)?,
+        datasets: DataSets::from_vec(Vec::new(alloc)),
         repo: Repo::new(alloc, 1, 1, [false; 4], 1)?,
         objects: objects(alloc)?,
         history: History::new(alloc),

@@ -40,6 +40,8 @@ use Rattle.qsg_manager.specs.Views.{shelf_of}
 use Rattle.qsg_logs.specs.Cuts.{IsCut, next_behind}
 use Rattle.qsg_logs.specs.Held.{AreHeld}
 use Rattle.qsg_logs.specs.Kept.{KeptLog, log_in}
+use Rattle.qsg_datasets.specs.Calls.{AreCut}
+use Rattle.qsg_datasets.specs.Kept.{KeptSet, sets_of}
 use Rattle.qsg_logs.proofs.Cuts.{goes_on}
 use Rattle.qsg_logs.proofs.Holding.{at_first}
 use Rattle.qsg_logs.proofs.Owners.{all_weaker}
@@ -49,6 +51,7 @@ use Rattle.qsg_steady.specs.Steady.{pages_named, tasks_of, IsRunOf, TellsFrom, I
 use Rattle.qsg_steady.proofs.Acting.{seen_of}
 use Rattle.qsg_steady.proofs.Moving.{by_member, seen_same}
 use Rattle.qsg_steady.proofs.Places.{log_same, log_other, latch_some, latch_none, written_none, writing_with}
+use Rattle.qsg_steady.proofs.Sets.{sets_moved}
 use Rattle.qsg_steady.proofs.Starts.{pushed_later}
 use Rattle.qsg_lives.proofs.Downing.{down, idle_in, down_here, down_other, down_length, down_tasks, down_seats, down_idles, ended_down, latched_one, latched_few}
 use Rattle.qsg_lives.proofs.Incarnations.{same_life, life_is, fails_up, fails_count, fails_all, crash_names_fewer}
@@ -62,8 +65,8 @@ abbrev failing : Member → Incarnation → Repository → Repository
 failing m i repo = record repo { lives = map (failed_life m i) repo.lives }
 
 -- the group after the crash, but for the holds
-abbrev ending : Member → KeptLog → List Item → ℕ → Owned → Owned
-ending m log units room p = record (crashed m log units room p) { repo = failing m (manager_in m p.managers).incarnation p.repo }
+abbrev ending : Member → KeptLog → List KeptSet → List Item → ℕ → Owned → Owned
+ending m log row units room p = record (crashed m log row units room p) { repo = failing m (manager_in m p.managers).incarnation p.repo }
 
 -- The member's unit may have been committed first.
 record MayEnd (m : Member) (p : Owned) (rest : Rest) : Type 0 where
@@ -81,10 +84,10 @@ seen_listed m log manager repo kept lives seen = record { low = seen.low; keep =
 abbrev passing : ℕ → Log → Log
 passing next log = record log { next = next }
 
-ending_lawful : (p : Owned) (m : Member) (new : KeptLog) (units : List Item) (room : ℕ) (l : IsLawful p) (e : MayEnd m p l.rest) → HasMember m p → (manager_in m p.managers).up ≡ true → list_any (is_up_life m (manager_in m p.managers).incarnation) p.repo.lives ≡ true
-    → e.history ≡ p.history.items ++ units → (e.logs m).next ≤ new.writer.next → IsSeen m (passing new.writer.next (e.logs m)) (down (manager_in m p.managers)) p.repo new → IsLawful (ending m new units room p)
-ending_lawful p m new units room l e has up listed history more seen =
-    let q = ending m new units room p in
+ending_lawful : (p : Owned) (m : Member) (new : KeptLog) (row : List KeptSet) (units : List Item) (room : ℕ) (l : IsLawful p) (e : MayEnd m p l.rest) → HasMember m p → (manager_in m p.managers).up ≡ true → list_any (is_up_life m (manager_in m p.managers).incarnation) p.repo.lives ≡ true
+    → e.history ≡ p.history.items ++ units → (e.logs m).next ≤ new.writer.next → IsSeen m (passing new.writer.next (e.logs m)) (down (manager_in m p.managers)) p.repo new → IsLawful (ending m new row units room p)
+ending_lawful p m new row units room l e has up listed history more seen =
+    let q = ending m new row units room p in
     let old = manager_in m p.managers in
     let inc = old.incarnation in
     let next = new.writer.next in
@@ -217,13 +220,13 @@ cut_whole m log manager repo kept new left run told tells cut hand whole =
 -- ---- the cases
 
 -- no unit is committed
-quiet_lawful : (p : Owned) (m : Member) (new : KeptLog) (left : Bool) (units : List Item) (room : ℕ) (l : IsLawful p) (has : HasMember m p) → (manager_in m p.managers).up ≡ true → list_any (is_up_life m (manager_in m p.managers).incarnation) p.repo.lives ≡ true
-    → IsCut left (log_in m p.logs) new → units ≡ [] → (told : IsCutTold (l.rest.logs m) (manager_in m p.managers) (log_in m p.logs) new (pages_named m p.repo)) → told.runs ≡ (l.rest.logs m).runs → IsLawful (ending m new units room p)
-quiet_lawful p m new left units room l has up listed cut none told same =
+quiet_lawful : (p : Owned) (m : Member) (new : KeptLog) (row : List KeptSet) (left : Bool) (units : List Item) (room : ℕ) (l : IsLawful p) (has : HasMember m p) → (manager_in m p.managers).up ≡ true → list_any (is_up_life m (manager_in m p.managers).incarnation) p.repo.lives ≡ true
+    → IsCut left (log_in m p.logs) new → units ≡ [] → (told : IsCutTold (l.rest.logs m) (manager_in m p.managers) (log_in m p.logs) new (pages_named m p.repo)) → told.runs ≡ (l.rest.logs m).runs → IsLawful (ending m new row units room p)
+quiet_lawful p m new row left units room l has up listed cut none told same =
     let seen = seen_of p m l has in
     let log = l.rest.logs m in
     let e : MayEnd m p l.rest = record { logs = l.rest.logs; history = l.rest.history; tasks = λ k t. task_at k t p.managers; laws = l.laws; other_logs = λ k differ. refl; other_tasks = λ k differ t. refl } in
-    ending_lawful p m new units room l e has up listed (l.mirrored.history ∙ sym (append-nil p.history.items) ∙ ap (λ us. p.history.items ++ us) (sym none))
+    ending_lawful p m new row units room l e has up listed (l.mirrored.history ∙ sym (append-nil p.history.items) ∙ ap (λ us. p.history.items ++ us) (sym none))
     (omega (arith, seen.behind, later_next left (log_in m p.logs) new cut))
     (subst (λ rs. IsSeen m (record log { runs = rs; next = new.writer.next }) (down (manager_in m p.managers)) p.repo new) same (seen_cut m log (manager_in m p.managers) p.repo (log_in m p.logs) new told seen))
 
@@ -233,11 +236,11 @@ hardened_log g u t ops claims next m own =
     (change-same member_number u.member (with_run (record { unit = u; first = (g.logs u.member).next; told = logged_ops ops claims }) next) g.logs)
 
 -- the unit whose run the cut left whole is committed
-whole_lawful : (p : Owned) (m : Member) (new : KeptLog) (left : Bool) (units : List Item) (room : ℕ) (l : IsLawful p) (has : HasMember m p) → (manager_in m p.managers).up ≡ true → list_any (is_up_life m (manager_in m p.managers).incarnation) p.repo.lives ≡ true
+whole_lawful : (p : Owned) (m : Member) (new : KeptLog) (row : List KeptSet) (left : Bool) (units : List Item) (room : ℕ) (l : IsLawful p) (has : HasMember m p) → (manager_in m p.managers).up ≡ true → list_any (is_up_life m (manager_in m p.managers).incarnation) p.repo.lives ≡ true
     → IsCut left (log_in m p.logs) new → (run : Run) (t : TaskNo) (ops : List (StructNo × Op)) (claims : List Claim) → task_at m t p.managers ≡ hardening_task run.unit ops claims run.first → run.told ≡ logged_ops ops claims → run.unit.member ≡ m
     → units ≡ UnitOf run.unit ops ∷ [] → run.first < new.writer.next
-    → (told : IsCutTold (l.rest.logs m) (manager_in m p.managers) (log_in m p.logs) new (pages_named m p.repo)) → told.runs ≡ (l.rest.logs m).runs ++ run ∷ [] → IsLawful (ending m new units room p)
-whole_lawful p m new left units room l has up listed cut run t ops claims hardens is_told own units_are more told runs =
+    → (told : IsCutTold (l.rest.logs m) (manager_in m p.managers) (log_in m p.logs) new (pages_named m p.repo)) → told.runs ≡ (l.rest.logs m).runs ++ run ∷ [] → IsLawful (ending m new row units room p)
+whole_lawful p m new row left units room l has up listed cut run t ops claims hardens is_told own units_are more told runs =
     let log = l.rest.logs m in
     let u = run.unit in
     let next = new.writer.next in
@@ -256,7 +259,7 @@ whole_lawful p m new left units room l has up listed cut run t ops claims harden
       other_logs = λ k differ. change-other member_number u.member (with_run (record { unit = u; first = (g.logs u.member).next; told = logged_ops ops claims }) next) g.logs k (apart k differ);
       other_tasks = λ k differ w. ap (λ (row : TaskNo → Task). row w) (change-other member_number u.member (change task_number t (λ task. settling_task u claims (Some (g.logs u.member).next) 0)) g.tasks k (apart k differ));
     } in
-    ending_lawful p m new units room l e has up listed
+    ending_lawful p m new row units room l e has up listed
     (ap (λ (items : List Item). items ++ UnitOf u ops ∷ []) l.mirrored.history ∙ ap (λ us. p.history.items ++ us) (sym units_are))
     (subst (λ (x : Log). x.next ≤ next) (sym here) (omega arith))
     (subst (λ (x : Log). IsSeen m (passing next x) (down (manager_in m p.managers)) p.repo new) (sym here)
@@ -277,10 +280,10 @@ and_last : (a b : Bool) → (a && b) ≡ true → b ≡ true
 and_last true b is = is
 and_last false b is = absurd (true≢false (sym is))
 
-crash_ending : (a b : ℕ) (p : Owned) (m : Member) (new : KeptLog) (left : Bool) (room : ℕ) → IsSteady a b p → (l : IsLawful p) → HasMember m p → (manager_in m p.managers).up ≡ true → (log_in m p.logs).tells ≡ true → IsCut left (log_in m p.logs) new
-    → IsLawful (ending m new (committed_by left m p) room p)
+crash_ending : (a b : ℕ) (p : Owned) (m : Member) (new : KeptLog) (row : List KeptSet) (left : Bool) (room : ℕ) → IsSteady a b p → (l : IsLawful p) → HasMember m p → (manager_in m p.managers).up ≡ true → (log_in m p.logs).tells ≡ true → IsCut left (log_in m p.logs) new
+    → IsLawful (ending m new row (committed_by left m p) room p)
 unfolding cut_torn cut_idle
-crash_ending a b p m new left room s l has up tells cut = by told.hand refl told.run
+crash_ending a b p m new row left room s l has up tells cut = by told.hand refl told.run
   where
     manager : Manager
     manager = manager_in m p.managers
@@ -297,7 +300,7 @@ crash_ending a b p m new left room s l has up tells cut = by told.hand refl told
     none : told.hand ≡ None → kept.writer.hand ≡ None
     none is = (subst (λ h. Tells (l.rest.logs m).keep kept.writer told.gone (l.rest.logs m).runs h kept.bytes) is told.tells).in_hand.0
 
-    by_whole : (run : Run) → told.hand ≡ Some run → IsRunOf (tasks_of manager) (Some run) → (b : Bool) → (is_last kept.writer && left) ≡ b → IsLawful (ending m new (committed_by left m p) room p)
+    by_whole : (run : Run) → told.hand ≡ Some run → IsRunOf (tasks_of manager) (Some run) → (b : Bool) → (is_last kept.writer && left) ≡ b → IsLawful (ending m new row (committed_by left m p) room p)
     by_whole run hand (t, ops, claims, hardens, is_told) true whole =
         let u = run.unit in
         let own : u.member ≡ m = s.own m t u (ap (λ (x : Task). x.unit) hardens) in
@@ -308,20 +311,20 @@ crash_ending a b p m new left room s l has up tells cut = by told.hand refl told
         ∙ ap (λ (x : Task). UnitOf u x.ops ∷ []) hardens in
         let within = (hand_within (l.rest.logs m).keep kept.writer told.gone (l.rest.logs m).runs run kept.bytes (subst (λ h. Tells (l.rest.logs m).keep kept.writer told.gone (l.rest.logs m).runs h kept.bytes) hand told.tells)).1 in
         let next : new.writer.next ≡ kept.writer.next + 1 = ap (λ (w : LogState). w.next) cut.writer ∙ ap (λ (x : Bool). next_behind x kept.writer.next) (and_last (is_last kept.writer) left whole) in
-        whole_lawful p m new left (committed_by left m p) room l has up listed cut run t ops claims hardens is_told own units (omega (arith, within, next)) made.0 made.1
+        whole_lawful p m new row left (committed_by left m p) room l has up listed cut run t ops claims hardens is_told own units (omega (arith, within, next)) made.0 made.1
     by_whole run hand (t, ops, claims, hardens, is_told) false torn =
-        quiet_lawful p m new left (committed_by left m p) room l has up listed cut (committed_none left m p torn)
+        quiet_lawful p m new row left (committed_by left m p) room l has up listed cut (committed_none left m p torn)
         (cut_torn m (l.rest.logs m) manager p.repo kept new left run told tells cut hand torn (s.live m t run.unit (ap (λ (x : Task). x.unit) hardens)).incarnation) refl
 
-    by : (hand : Option Run) → told.hand ≡ hand → IsRunOf (tasks_of manager) hand → IsLawful (ending m new (committed_by left m p) room p)
-    by None is run = quiet_lawful p m new left (committed_by left m p) room l has up listed cut (committed_none left m p (and_right (is_last kept.writer) left (cut.idle (none is)))) (cut_idle m (l.rest.logs m) manager p.repo kept new left told tells cut is) refl
+    by : (hand : Option Run) → told.hand ≡ hand → IsRunOf (tasks_of manager) hand → IsLawful (ending m new row (committed_by left m p) room p)
+    by None is run = quiet_lawful p m new row left (committed_by left m p) room l has up listed cut (committed_none left m p (and_right (is_last kept.writer) left (cut.idle (none is)))) (cut_idle m (l.rest.logs m) manager p.repo kept new left told tells cut is) refl
     by (Some run) is of = by_whole run is of (is_last kept.writer && left) refl
 
-crash_lawful : (a b : ℕ) (p : Owned) (m : Member) (new : KeptLog) (left : Bool) (room : ℕ) → IsSteady a b p → (l : IsLawful p) → HasMember m p → (manager_in m p.managers).up ≡ true → (log_in m p.logs).tells ≡ true → IsCut left (log_in m p.logs) new
-    → IsLawful (crashed m new (committed_by left m p) room p)
-crash_lawful a b p m new left room s l has up tells cut =
+crash_lawful : (a b : ℕ) (p : Owned) (m : Member) (new : KeptLog) (row : List KeptSet) (left : Bool) (room : ℕ) → IsSteady a b p → (l : IsLawful p) → HasMember m p → (manager_in m p.managers).up ≡ true → (log_in m p.logs).tells ≡ true → IsCut left (log_in m p.logs) new
+    → IsLawful (crashed m new row (committed_by left m p) room p)
+crash_lawful a b p m new row left room s l has up tells cut =
     let inc = (manager_in m p.managers).incarnation in
-    lawful_raised (ending m new (committed_by left m p) room p) (failed_in m inc p.repo) (crash_ending a b p m new left room s l has up tells cut) (crash_names_fewer m inc p.repo)
+    lawful_raised (ending m new row (committed_by left m p) room p) (failed_in m inc p.repo) (crash_ending a b p m new row left room s l has up tells cut) (crash_names_fewer m inc p.repo)
     (λ rest mirrored. record { history = mirrored.history; failed = mirrored.failed; tops = mirrored.tops })
 
 -- ---- the group
@@ -342,10 +345,16 @@ units_few left m p = by (is_last (log_in m p.logs).writer && left)
     by true = latched_few (manager_in m p.managers)
     by false = omega arith
 
-crash_parts : (a b : ℕ) (p : Owned) (m : Member) (new : KeptLog) (left : Bool) (room : ℕ) → IsSteady a b p → HasMember m p → (manager_in m p.managers).up ≡ true → IsCut left (log_in m p.logs) new → p.history.room ≤ room + length (committed_by left m p)
-    → IsSteady a b (crashed m new (committed_by left m p) room p)
-crash_parts a b p m new left room s has up cut more =
-    let q = crashed m new (committed_by left m p) room p in
+cut_as_long : (old new : List KeptSet) → AreCut old new → length new ≡ length old
+cut_as_long [] [] cut = refl
+cut_as_long (x ∷ xs) (y ∷ ys) cut = let rest = cut_as_long xs ys cut.1 in omega (arith, rest)
+cut_as_long [] (y ∷ ys) cut = absurd cut
+cut_as_long (x ∷ xs) [] cut = absurd cut
+
+crash_parts : (a b : ℕ) (p : Owned) (m : Member) (new : KeptLog) (row : List KeptSet) (left : Bool) (room : ℕ) → IsSteady a b p → HasMember m p → (manager_in m p.managers).up ≡ true → IsCut left (log_in m p.logs) new → length row ≡ length (sets_of m p.datasets) → p.history.room ≤ room + length (committed_by left m p)
+    → IsSteady a b (crashed m new row (committed_by left m p) room p)
+crash_parts a b p m new row left room s has up cut long more =
+    let q = crashed m new row (committed_by left m p) room p in
     let ms = p.managers in
     let old = manager_in m ms in
     let inc = old.incarnation in
@@ -366,6 +375,7 @@ crash_parts a b p m new left room s has up cut more =
             (λ k differ is. ap (λ (x : Manager). length x.tasks) (down_other m k ms differ) ∙ s.shape.five k (within k is));
         lows = s.shape.lows;
         structures = s.shape.structures;
+        datasets = sets_moved m row p q refl long has.manager count refl s.shape.datasets;
       };
       named = down_tasks m ms (λ k t (x : Task). x.unit ≡ None → x ≡ idle) has.manager (λ t is. refl) s.named;
       own = down_tasks m ms (λ k t (x : Task). (u : UnitName) → x.unit ≡ Some u → u.member ≡ k) has.manager (λ t u is. absurd (none-some u is)) s.own;
@@ -404,7 +414,7 @@ crash_parts a b p m new left room s has up cut more =
           let before : AreTelling p = by_member (λ k. member_number k ≤ length p.logs → (log_in k p.logs).tells ≡ true) m
           (λ is. sym cut.tells ∙ ap (λ (x : KeptLog). x.tells) (sym there) ∙ telling m (subst (λ (n : ℕ). member_number m ≤ n) (sym counts) is))
           (λ k differ is. ap (λ (x : KeptLog). x.tells) (sym (log_other m k new p.logs differ)) ∙ telling k (subst (λ (n : ℕ). member_number k ≤ n) (sym counts) is)) in
-          crash_lawful a b p m new left room s (s.lawful before) has up (before m has.log) cut;
+          crash_lawful a b p m new row left room s (s.lawful before) has up (before m has.log) cut;
     }
   where
     seat : (k : Member) (i : Incarnation) → HasEnded i.number (seat_of (manager_in k p.managers)) → HasEnded i.number (seat_of (manager_in k (with_down m p.managers)))
@@ -425,4 +435,4 @@ crash_parts a b p m new left room s has up cut more =
         record { member = subst (λ (n : ℕ). member_number k ≤ n) (sym (down_length m p.managers)) was.member; ended = seat k i was.ended }
 
 pub crash_steady : (a b : ℕ) (m : Member) (p q : Owned) → IsSteady a b p → HasMember m p → (manager_in m p.managers).up ≡ true → IsCrash m p q → IsSteady a b q
-crash_steady a b m p q s has up crash = subst (IsSteady a b) (sym crash.parts) (crash_parts a b p m (log_in m q.logs) crash.left q.history.room s has up crash.log crash.room)
+crash_steady a b m p q s has up crash = subst (IsSteady a b) (sym crash.parts) (crash_parts a b p m (log_in m q.logs) (sets_of m q.datasets) crash.left q.history.room s has up crash.log (cut_as_long (sets_of m p.datasets) (sets_of m q.datasets) crash.datasets) crash.room)

@@ -27,6 +27,7 @@ use Rattle.qsg_logrec.specs.declared.record.LogRecord.{LogRecord}
 use Rattle.qsg_reading.proofs.Agreeing.{begun_agrees}
 use Rattle.qsg_steady.specs.Steady.{IsWithin, IsLawful, IsSteady}
 use Rattle.qsg_steady.proofs.Operating.{same_ids}
+use Rattle.qsg_steady.proofs.Sets.{sets_stay}
 use Rattle.qsg_peer.specs.declared.phases.FailedLife.{FailedLife}
 use Rattle.qsg_peer.specs.declared.phases.NoMemory.{NoMemory}
 use Rattle.qsg_peer.specs.declared.phases.PeerTurn.{PeerTurn}
@@ -69,7 +70,7 @@ off_steady a b life connection found reader p s within is over may =
     let q = with_mark_off connection found commits p in
     let same : length q.structures ≡ length p.structures = length-set p.structures (structure_number connection.structure - 1) y in
     record {
-      shape = record { logs = s.shape.logs; few = s.shape.few; five = s.shape.five; lows = s.shape.lows; structures = subst (λ (n : ℕ). length p.objects.structures ≤ n) (sym same) s.shape.structures };
+      shape = record { logs = s.shape.logs; few = s.shape.few; five = s.shape.five; lows = s.shape.lows; structures = subst (λ (n : ℕ). length p.objects.structures ≤ n) (sym same) s.shape.structures; datasets = sets_stay p q refl refl same s.shape.datasets };
       named = s.named;
       own = s.own;
       live = s.live;
@@ -96,7 +97,7 @@ pub resolve_steady : (a b : ℕ) (life : FailedLife) (p : Owned) → IsSteady a 
 resolve_steady a b life p s clear =
     let q = with_resolved life p in
     record {
-      shape = record { logs = s.shape.logs; few = s.shape.few; five = s.shape.five; lows = s.shape.lows; structures = s.shape.structures };
+      shape = record { logs = s.shape.logs; few = s.shape.few; five = s.shape.five; lows = s.shape.lows; structures = s.shape.structures; datasets = record { members = s.shape.datasets.members; structures = s.shape.datasets.structures } };
       named = s.named;
       own = s.own;
       live = s.live;

@@ -19,6 +19,7 @@ use Rattle.qsg_manager.specs.Storage.{task_in, manager_in, task_at}
 use Rattle.qsg_manager.proofs.Grouping.{manager_same, manager_other}
 use Rattle.qsg_logs.specs.Cuts.{restarted}
 use Rattle.qsg_logs.specs.Kept.{KeptLog, no_fillings, filling_of, log_in}
+use Rattle.qsg_datasets.specs.Kept.{sets_of}
 use Rattle.qsg_logs.specs.Reading.{IsRead}
 use Rattle.qsg_parts.specs.Owned.{Owned, HasMember}
 use Rattle.qsg_crash.specs.Crashes.{committed_by, IsCrash, crashed}
@@ -48,7 +49,7 @@ stood_beside k t p q manager log members logs structures =
 
 pub crash_spares : (m : Member) (p q : Owned) → IsCrash m p q → SparesOtherMembers m p q
 crash_spares m p q crash = subst (SparesOtherMembers m p) (sym crash.parts) (λ k t differ.
-    stood_beside k t p (crashed m (log_in m q.logs) (committed_by crash.left m p) q.history.room p)
+    stood_beside k t p (crashed m (log_in m q.logs) (sets_of m q.datasets) (committed_by crash.left m p) q.history.room p)
     (down_other m k p.managers differ) (log_other m k (log_in m q.logs) p.logs differ) (down_length m p.managers) (length-set p.logs (member_number m - 1) (log_in m q.logs)) refl)
 
 -- ---- a read

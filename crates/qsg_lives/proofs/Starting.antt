@@ -53,6 +53,7 @@ use Rattle.qsg_steady.proofs.Committing.{failed_steady}
 use Rattle.qsg_steady.proofs.Gives.{down_idle, down_quiet}
 use Rattle.qsg_steady.proofs.Moving.{by_member, seen_same}
 use Rattle.qsg_steady.proofs.Places.{log_same, log_other, written_same, writing_with}
+use Rattle.qsg_steady.proofs.Sets.{sets_stay}
 use Rattle.qsg_lives.specs.Deciding.{MayGoOnAt, MayStartAt}
 use Rattle.qsg_lives.specs.Standing.{SparesAll}
 use Rattle.qsg_lives.proofs.Crashing.{seen_listed}
@@ -198,6 +199,7 @@ start_steady a b m page p s has may =
             (λ k differ is. ap (λ (y : Manager). length y.tasks) (other k differ) ∙ s.shape.five k (within k is));
         lows = s.shape.lows;
         structures = s.shape.structures;
+        datasets = sets_stay p q refl count refl s.shape.datasets;
       };
       named = start_tasks m p (λ k t (y : Task). y.unit ≡ None → y ≡ idle) has.manager s.named;
       own = start_tasks m p (λ k t (y : Task). (u : UnitName) → y.unit ≡ Some u → u.member ≡ k) has.manager s.own;

@@ -21,6 +21,7 @@ use Rattle.qsg_group.specs.Group.{idle}
 use Rattle.qsg_manager.specs.declared.managers.Manager.{Manager}
 use Rattle.qsg_manager.specs.Storage.{no_manager, task_in, manager_in, task_at}
 use Rattle.qsg_logs.specs.Kept.{KeptLog, no_log, log_in}
+use Rattle.qsg_datasets.specs.Kept.{sets_of}
 use Rattle.qsg_parts.specs.Owned.{Owned}
 use Rattle.qsg_steady.specs.Steady.{is_up_life}
 use Rattle.qsg_steady.proofs.Places.{member_some, member_few}
@@ -161,7 +162,7 @@ crash_fewer m p q crash = record {
 }
   where
     after : Owned
-    after = crashed m (log_in m q.logs) (committed_by crash.left m p) q.history.room p
+    after = crashed m (log_in m q.logs) (sets_of m q.datasets) (committed_by crash.left m p) q.history.room p
 
 crash_long : (m : Member) (p q : Owned) → IsCrash m p q → AreAsLong p q
 crash_long m p q crash = λ k. ap (λ (x : Owned). size_in k x.logs) crash.parts ∙ size_kept m (log_in m q.logs) p.logs (ap (λ (x : LogState). x.size) crash.log.writer) k

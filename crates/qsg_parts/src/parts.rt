@@ -1,5 +1,6 @@
 //! The parts of a group.
 
+use qsg_datasets::DataSets;
 use qsg_disk::Disk;
 use qsg_logs::Logs;
 use qsg_manager::{Managers, Structures};
@@ -16,6 +17,8 @@ pub struct Parts<D: Disk> {
     pub managers: Managers,
     /// The members' logs, with what members keep of them.
     pub logs: Logs<D>,
+    /// The members' data sets, with what members keep of them.
+    pub datasets: DataSets<D>,
     /// What all members share besides.
     pub repo: Repo,
     /// The definitions of structures and queues.

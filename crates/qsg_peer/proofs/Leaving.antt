@@ -24,16 +24,17 @@ use Rattle.qsg_peer.specs.Leaving.{is_settle, takes_off, LeavesRest, LeavesStruc
 same_read : (log : KeptLog) → IsRead log log
 same_read log = record { rest = refl; bytes = λ tells. refl; later = omega arith }
 
-same_rest : (p q : Owned) → q.managers ≡ p.managers → q.objects ≡ p.objects → q.history ≡ p.history → q.logs ≡ p.logs → LeavesRest p q
-same_rest p q managers objects history logs = record {
+same_rest : (p q : Owned) → q.managers ≡ p.managers → q.datasets ≡ p.datasets → q.objects ≡ p.objects → q.history ≡ p.history → q.logs ≡ p.logs → LeavesRest p q
+same_rest p q managers datasets objects history logs = record {
   managers = managers;
+  datasets = datasets;
   objects = objects;
   history = history;
   logs = λ m. subst (λ (l : List KeptLog). IsRead (log_in m p.logs) (log_in m l)) (sym logs) (same_read (log_in m p.logs));
 }
 
 all_same : (p q : Owned) → q ≡ p → LeavesRest p q
-all_same p q is = same_rest p q (ap (λ (x : Owned). x.managers) is) (ap (λ (x : Owned). x.objects) is) (ap (λ (x : Owned). x.history) is) (ap (λ (x : Owned). x.logs) is)
+all_same p q is = same_rest p q (ap (λ (x : Owned). x.managers) is) (ap (λ (x : Owned). x.datasets) is) (ap (λ (x : Owned). x.objects) is) (ap (λ (x : Owned). x.history) is) (ap (λ (x : Owned). x.logs) is)
 
 parts_are : (next : Next) (turn : PeerTurn) (v : Work) (q : Owned) → record { turn = turn; work = v; parts = q } ≡ next → q ≡ next.parts
 parts_are next turn v q is = ap (λ (n : Next). n.parts) is
@@ -41,6 +42,7 @@ parts_are next turn v q is = ap (λ (n : Next). n.parts) is
 read_rest : (life : FailedLife) (p q : Owned) → HasRead life p q → LeavesRest p q
 read_rest life p q has = record {
   managers = ap (λ (x : Owned). x.managers) has.others;
+  datasets = ap (λ (x : Owned). x.datasets) has.others;
   objects = ap (λ (x : Owned). x.objects) has.others;
   history = ap (λ (x : Owned). x.history) has.others;
   logs = λ k. elim (cases_member k life.member) [
@@ -65,11 +67,11 @@ act_rest life (Search connection after) w p (Ok turn) v q acts = all_same p q (p
 act_rest life (Search connection after) w p (Err e) v q acts = absurd acts
 act_rest life (Settle connection found) w p (Ok turn) v q acts =
     let is = parts_are (after_settle life connection found w p) turn v q acts in
-    same_rest p q (ap (λ (x : Owned). x.managers) is) (ap (λ (x : Owned). x.objects) is) (ap (λ (x : Owned). x.history) is) (ap (λ (x : Owned). x.logs) is)
+    same_rest p q (ap (λ (x : Owned). x.managers) is) (ap (λ (x : Owned). x.datasets) is) (ap (λ (x : Owned). x.objects) is) (ap (λ (x : Owned). x.history) is) (ap (λ (x : Owned). x.logs) is)
 act_rest life (Settle connection found) w p (Err e) v q acts = absurd acts
 act_rest life Resolve w p (Ok turn) v q acts =
     let is = parts_are (after_resolve life w p) turn v q acts in
-    same_rest p q (ap (λ (x : Owned). x.managers) is) (ap (λ (x : Owned). x.objects) is) (ap (λ (x : Owned). x.history) is) (ap (λ (x : Owned). x.logs) is)
+    same_rest p q (ap (λ (x : Owned). x.managers) is) (ap (λ (x : Owned). x.datasets) is) (ap (λ (x : Owned). x.objects) is) (ap (λ (x : Owned). x.history) is) (ap (λ (x : Owned). x.logs) is)
 act_rest life Resolve w p (Err e) v q acts = absurd acts
 
 on_rest : (life : FailedLife) (stage : Stage) (w : Work) (p : Owned) (result : Result PeerTurn NoMemory) (v : Work) (q : Owned) → GoesOn life stage w p result v q → LeavesRest p q

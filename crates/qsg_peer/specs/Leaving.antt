@@ -22,9 +22,11 @@ takes_off Find = false
 takes_off (Low life) = false
 takes_off (At life stage) = is_settle stage
 
--- members' storage, the objects and the history are as they were, and each log but for what reading does to its device
+-- members' storage, the data sets, the objects and the history are as they were, and each log but for what reading does to
+-- its device
 pub record LeavesRest (p q : Owned) : Type 0 where
   pub managers : q.managers ≡ p.managers
+  pub datasets : q.datasets ≡ p.datasets
   pub objects : q.objects ≡ p.objects
   pub history : q.history ≡ p.history
   pub logs : (m : Member) → IsRead (log_in m p.logs) (log_in m q.logs)

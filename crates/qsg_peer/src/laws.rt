@@ -41,8 +41,8 @@ ghost use Rattle.qsg_peer.specs.Sweeping.{AreOrdered, HasSweptAt, HasResolved};
 ghost use Rattle.qsg_peer.specs.Leaving.{takes_off, LeavesRest, LeavesStructures};
 ghost use Rattle.qsg_peer.specs.Pace.{marks_above, left_of_peer, whole_peer, whole_of, HasFoundLife, HasNoMoreMarks, HasNoMoreAt};
 
-/// A step that isn't one of a settle leaves all structures; every step leaves members' storage, the objects and the
-/// history, and of the logs all but what reading does to a device.
+/// A step that isn't one of a settle leaves all structures; every step leaves members' storage, the data sets, the objects
+/// and the history, and of the logs all but what reading does to a device.
 pub fn a_step_leaves_the_rest()
     ensures rest { (skip : List (Member × Incarnation)) (w : Work) (p : Owned) (result : Result PeerTurn NoMemory) (v : Work) (q : Owned) → NextPeer skip w p result v q → LeavesRest p q }
     ensures structures { (skip : List (Member × Incarnation)) (w : Work) (p : Owned) (result : Result PeerTurn NoMemory) (v : Work) (q : Owned) → NextPeer skip w p result v q → takes_off w.phase ≡ false → LeavesStructures p q }

@@ -3,6 +3,7 @@
 ghost use Rattle.std.specs.Prelude.{◌<◌, ◌≤◌, ◌+◌, IfSome};
 
 use crate::{PeerTurn, PeerWork};
+use qsg_datasets::DataSets;
 use qsg_disk::{Disk, Kind, Rig};
 use qsg_disk_mem::{BlindRig, MemDisk};
 use qsg_lists::{Connection, Head, Place, Structure};
@@ -143,6 +144,7 @@ fn parts<D: Disk + Drop>(alloc: Global, devices: Vec<D>) -> Option<Parts<D>> {
         structures: structures(alloc)?,
         managers: Managers::from_vec(Vec::new(alloc)),
         logs: logs(alloc, devices)?,
+        datasets: DataSets::from_vec(Vec::new(alloc)),
         repo: repo(alloc)?,
         objects: Objects::new(alloc),
         history: History::new(alloc),

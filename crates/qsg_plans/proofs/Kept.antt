@@ -1,5 +1,5 @@
 -- what is kept of a script as far as it was read, by each statement without a fault
-use Rattle.std.proofs.Common.{◌≡◌, ℕ, ◌+◌, ◌<◌, ◌≤◌, Bool, true, false, List, [], ◌∷◌, ◌++◌, length, drop, Some, None, refl, ap, sym, subst, ◌∙◌, arith}
+use Rattle.std.proofs.Common.{◌≡◌, ℕ, ◌+◌, ◌<◌, ◌≤◌, Bool, true, false, List, [], ◌∷◌, ◌++◌, length, drop, Option, Some, None, refl, ap, sym, subst, ◌∙◌, arith}
 use Rattle.std.specs.Prelude.{nat_le, if◌then◌else◌}
 use Rattle.std.specs.List.{AllByRecursion}
 use Rattle.std.specs.Option.{option_or}
@@ -9,16 +9,23 @@ use Rattle.mqsc_admin.specs.declared.admins.Admin.{Admin}
 use Rattle.mqsc_admin.specs.declared.admins.Admin.TheVariants as admin
 use Rattle.mqsc_admin.specs.Admins.{admin_of}
 use Rattle.mqsc_define.specs.Definitions.{definition_of}
+use Rattle.mqsc_define.specs.Ranges.{IsInRange as IsDefinitionInRange}
+use Rattle.mqsc_define.proofs.Ranges.{definition_in_range}
 use Rattle.qsg_lines.specs.declared.items.Item.{Item}
 use Rattle.qsg_num.specs.declared.seats.StructNo.{StructNo}
+use Rattle.qsg_num.specs.Seats.{structure_at}
 use Rattle.qsg_num.specs.declared.ids.Actor.{Actor}
 use Rattle.qsg_num.specs.declared.ids.Actor.TheVariants.{Task, Operator}
 use Rattle.qsg_objects.specs.declared.directives.Directive.{Directive}
 use Rattle.qsg_objects.specs.declared.directives.Directive.TheVariants as directive
 use Rattle.qsg_objects.specs.declared.plans.MemberDef.{MemberDef}
 use Rattle.qsg_objects.specs.declared.plans.Size.{Size}
+use Rattle.qsg_objects.specs.declared.definitions.CfstructDef.{CfstructDef}
+use Rattle.qsg_objects.specs.declared.definitions.QlocalDef.{QlocalDef}
 use Rattle.qsg_objects.specs.declared.definitions.Definition.{Definition}
-use Rattle.qsg_objects.specs.Registry.{Registry}
+use Rattle.qsg_objects.specs.declared.definitions.Definition.TheVariants.{Cfstruct as a_structure, Qlocal as a_queue}
+use Rattle.qsg_objects.specs.declared.registry.Cfstruct.{Cfstruct}
+use Rattle.qsg_objects.specs.Registry.{Registry, number_named, with_structure, with_queue, defined}
 use Rattle.qsg_objects.proofs.Kept.{all-append, all-imp}
 use Rattle.qsg_directives.specs.Asking.{IsRight}
 use Rattle.qsg_draft.specs.declared.stages.Stage.{Stage}
@@ -39,13 +46,15 @@ use Rattle.qsg_statement.specs.Words.{key_at, text_behind, member_of, structure_
 use Rattle.qsg_statement.proofs.Bodies.{neither}
 use Rattle.qsg_script.specs.Script.{Takes, TakesAll}
 use Rattle.qsg_sound.specs.Sound.{IsDirectiveWithin}
-use Rattle.qsg_sysplex.specs.Plans.{IsLogSized, AreRight, AreWithin, directives_of}
+use Rattle.qsg_devices.specs.Logs.{IsLogSized}
+use Rattle.qsg_sysplex.specs.Plans.{AreRight, AreWithin, directives_of}
 use Rattle.qsg_plans.specs.Plans.{HasElements, IsActorOf, IsWorkOf}
-use Rattle.qsg_plans.proofs.Keywords.{log-right, elements-right}
-use Rattle.qsg_plans.proofs.Numbers.{count-most, count-least}
+use Rattle.qsg_plans.proofs.Facilities.{IsSetRight, IsNamed, facility-rights, new-right}
+use Rattle.qsg_plans.proofs.Keywords.{log-right, elements-right, blocks-right}
+use Rattle.qsg_plans.proofs.Numbers.{count-most, count-least, structure-at}
 use Rattle.qsg_plans.proofs.Objects.{AreDefined, defined-keeps}
 use Rattle.qsg_plans.proofs.Sections.{inserted-all, extended-all, inserted-count, extended-count}
-use Rattle.qsg_plans.proofs.Words.{task-within, crash-within, start-within, body-sized}
+use Rattle.qsg_plans.proofs.Words.{task-within, crash-within, start-within, facility-within, body-sized}
 
 abbrev pub IsFacilitySized : StructNo × Size → Type 0
 IsFacilitySized f = HasElements f.1
@@ -56,6 +65,8 @@ pub record AreInBounds (n : ℕ) (members : List MemberDef) (objects : Registry)
   pub logs : AllByRecursion IsLogSized members
   pub defined : AreDefined objects
   pub elements : AllByRecursion IsFacilitySized facilities
+  pub named : AllByRecursion (IsNamed (length objects.structures)) facilities
+  pub sets : AllByRecursion (IsSetRight facilities) objects.structures
   pub actors : AllByRecursion (IsWorkOf (length members)) sections
   pub right : AllByRecursion AreRight sections
   pub within : AllByRecursion (AreWithin (length members)) sections
@@ -74,6 +85,8 @@ more n members objects facilities sections kept =
       logs = kept.logs;
       defined = kept.defined;
       elements = kept.elements;
+      named = kept.named;
+      sets = kept.sets;
       actors = kept.actors;
       right = kept.right;
       within = kept.within;
@@ -84,7 +97,7 @@ unchanged : (n : ℕ) (c : Contents) → IsInBounds n c → IsInBounds (n + 1) c
 unchanged n c kept = more n c.members c.objects c.facilities c.sections kept
 
 none-kept : IsInBounds 0 nothing_read
-none-kept = record { few = omega arith; logs = tt; defined = record { numbered = tt; placed = tt }; elements = tt; actors = tt; right = tt; within = tt; directives = omega arith }
+none-kept = record { few = omega arith; logs = tt; defined = record { numbered = tt; placed = tt }; elements = tt; named = tt; sets = tt; actors = tt; right = tt; within = tt; directives = omega arith }
 
 -- MEMBER.
 
@@ -139,6 +152,8 @@ member-keeps n c words e kept =
       logs = all-append IsLogSized c.members m kept.logs (log-sized c words e);
       defined = kept.defined;
       elements = kept.elements;
+      named = kept.named;
+      sets = kept.sets;
       actors = all-imp (IsWorkOf (length c.members)) (IsWorkOf (length (c.members ++ m ∷ []))) (λ s is. more-actors (length c.members) (length (c.members ++ m ∷ [])) s.0 (omega (arith, one)) is) c.sections kept.actors;
       right = kept.right;
       within = all-imp (AreWithin (length c.members)) (AreWithin (length (c.members ++ m ∷ []))) (λ s is. more-within (length c.members) (length (c.members ++ m ∷ [])) s.1 (omega (arith, one)) is) c.sections kept.within;
@@ -147,18 +162,22 @@ member-keeps n c words e kept =
 
 -- FACILITY.
 
-facility-sized : (c : Contents) (words : List Word) → row_fault c row.Facility words ≡ None → HasElements (facility_size c (key_at 1 words) (drop 2 words))
-facility-sized c words e =
+facility-elements : (c : Contents) (words : List Word) → row_fault c row.Facility words ≡ None → HasElements (facility_size c (key_at 1 words) (drop 2 words))
+facility-elements c words e =
     let text = text_behind keyword.Elements (drop 2 words) in
     (count-least 65536 1 1048576 text (omega arith) (elements-right c words e), count-most 65536 1048576 text (omega arith))
 
-facility-keeps : (n : ℕ) (c : Contents) (s : StructNo) (size : Size) → HasElements size → IsInBounds n c → IsInBounds (n + 1) (with_facility s size c)
-facility-keeps n c s size sized kept =
+facility-keeps : (n : ℕ) (c : Contents) (words : List Word) → row_fault c row.Facility words ≡ None → IsInBounds n c → IsInBounds (n + 1) (with_facility (structure_of (key_at 1 words) c) (facility_size c (key_at 1 words) (drop 2 words)) c)
+facility-keeps n c words e kept =
+    let s : StructNo = structure_of (key_at 1 words) c in
+    let size : Size = facility_size c (key_at 1 words) (drop 2 words) in
     record {
       few = kept.few;
       logs = kept.logs;
       defined = kept.defined;
-      elements = all-append IsFacilitySized c.facilities (s, size) kept.elements sized;
+      elements = all-append IsFacilitySized c.facilities (s, size) kept.elements (facility-elements c words e);
+      named = all-append (IsNamed (length c.objects.structures)) c.facilities (s, size) kept.named (facility-within c words kept.defined.numbered e);
+      sets = facility-rights c s size.elements (text_behind keyword.Blocks (drop 2 words)) kept.defined.numbered (blocks-right c words e) kept.sets;
       actors = kept.actors;
       right = kept.right;
       within = kept.within;
@@ -174,6 +193,8 @@ section-keeps n c a is kept =
       logs = kept.logs;
       defined = kept.defined;
       elements = kept.elements;
+      named = kept.named;
+      sets = kept.sets;
       actors = inserted-all (IsWorkOf (length c.members)) a c.sections is kept.actors;
       right = inserted-all AreRight a c.sections tt kept.right;
       within = inserted-all (AreWithin (length c.members)) a c.sections tt kept.within;
@@ -191,6 +212,8 @@ directive-keeps n c (stage.Section a) d is within kept =
       logs = kept.logs;
       defined = kept.defined;
       elements = kept.elements;
+      named = kept.named;
+      sets = kept.sets;
       actors = extended-all (IsWorkOf (length c.members)) a d c.sections (λ s h. h) kept.actors;
       right = extended-all AreRight a d c.sections (λ s h. all-append IsRight s.1 d h is) kept.right;
       within = extended-all (AreWithin (length c.members)) a d c.sections (λ s h. all-append (IsDirectiveWithin (length c.members)) s.1 d h within) kept.within;
@@ -220,13 +243,41 @@ put-right c words = body-sized (text_behind keyword.Body (drop 2 words)) (text_b
 
 -- DEFINE.
 
-definition-keeps : (n : ℕ) (c : Contents) (d : Definition) → IsInBounds n c → IsInBounds (n + 1) (with_definition d c)
-definition-keeps n c d kept =
+-- one structure more, which has the next number
+structure-more : (facilities : List (StructNo × Size)) (o : Registry) (number : Option StructNo) (d : CfstructDef) → structure_at (length o.structures + 1) ≡ number → IsDefinitionInRange (a_structure d)
+    → AllByRecursion (IsNamed (length o.structures)) facilities → AllByRecursion (IsSetRight facilities) o.structures
+    → AllByRecursion (IsNamed (length (with_structure number d o).structures)) facilities × AllByRecursion (IsSetRight facilities) (with_structure number d o).structures
+structure-more facilities o None d is range named sets = (named, sets)
+structure-more facilities o (Some number) d is range named sets =
+    let s : Cfstruct = record { number = number; definition = d } in
+    let one = length-push o.structures s in
+    let at = structure-at (length o.structures + 1) number is in (
+      all-imp (IsNamed (length o.structures)) (IsNamed (length (o.structures ++ s ∷ []))) (λ f h. omega (arith, h, one)) facilities named,
+      all-append (IsSetRight facilities) o.structures s sets (new-right facilities s (length o.structures) named (omega (arith, at)) (record { smallest = range.smallest_block; largest = range.largest_block })),
+    )
+
+queue-same : (facilities : List (StructNo × Size)) (o : Registry) (number : Option StructNo) (d : QlocalDef)
+    → AllByRecursion (IsNamed (length o.structures)) facilities → AllByRecursion (IsSetRight facilities) o.structures
+    → AllByRecursion (IsNamed (length (with_queue number d o).structures)) facilities × AllByRecursion (IsSetRight facilities) (with_queue number d o).structures
+queue-same facilities o None d named sets = (named, sets)
+queue-same facilities o (Some number) d named sets = (named, sets)
+
+sets-defined : (facilities : List (StructNo × Size)) (o : Registry) (d : Definition) → IsDefinitionInRange d
+    → AllByRecursion (IsNamed (length o.structures)) facilities → AllByRecursion (IsSetRight facilities) o.structures
+    → AllByRecursion (IsNamed (length (defined d o).structures)) facilities × AllByRecursion (IsSetRight facilities) (defined d o).structures
+sets-defined facilities o (a_structure d) range named sets = structure-more facilities o (structure_at (length o.structures + 1)) d refl range named sets
+sets-defined facilities o (a_queue d) range named sets = queue-same facilities o (number_named d.cfstruct o) d named sets
+
+definition-keeps : (n : ℕ) (c : Contents) (d : Definition) → IsDefinitionInRange d → IsInBounds n c → IsInBounds (n + 1) (with_definition d c)
+definition-keeps n c d range kept =
+    let sets = sets-defined c.facilities c.objects d range kept.named kept.sets in
     record {
       few = kept.few;
       logs = kept.logs;
       defined = defined-keeps d c.objects kept.defined;
       elements = kept.elements;
+      named = sets.0;
+      sets = sets.1;
       actors = kept.actors;
       right = kept.right;
       within = kept.within;
@@ -238,8 +289,7 @@ definition-keeps n c d kept =
 row-keeps : (n : ℕ) (c : Contents) (r : Row) (words : List Word) → row_fault c r words ≡ None → IsInBounds n c → IsInBounds (n + 1) (taken (statement_of c (Listed r) words) c)
 row-keeps n c row.Group words right kept = unchanged n c kept
 row-keeps n c row.Member words right kept = member-keeps n c words right kept
-row-keeps n c row.Facility words right kept =
-    facility-keeps n c (structure_of (key_at 1 words) c) (facility_size c (key_at 1 words) (drop 2 words)) (facility-sized c words right) kept
+row-keeps n c row.Facility words right kept = facility-keeps n c words right kept
 row-keeps n c row.Task words right kept = section-keeps n c (Task (member_of (key_at 1 words) c) (task_of (key_at 2 words))) (task-within c words right) kept
 row-keeps n c row.Operator words right kept = section-keeps n c Operator tt kept
 row-keeps n c row.Put words right kept = directive-keeps n c c.stage (directive_by c row.Put words) (put-right c words) tt kept
@@ -258,7 +308,7 @@ row-keeps n c row.TurnOperator words right kept = unchanged n c kept
 row-keeps n c row.End words right kept = unchanged n c kept
 
 kind-keeps : (n : ℕ) (c : Contents) (kind : Kind) (words : List Word) → kind_fault c kind words ≡ None → IsInBounds n c → IsInBounds (n + 1) (taken (statement_of c kind words) c)
-kind-keeps n c Define words right kept = definition-keeps n c (definition_of words) kept
+kind-keeps n c Define words right kept = definition-keeps n c (definition_of words) (definition_in_range words) kept
 kind-keeps n c Command words right kept = directive-keeps n c c.stage (command_directive c (admin_of words)) (command-right c (admin_of words)) (command-within c (admin_of words)) kept
 kind-keeps n c (Listed r) words right kept = row-keeps n c r words right kept
 

@@ -1,8 +1,10 @@
 -- what stands behind a keyword of a statement without a fault is right
 use Rattle.std.proofs.Common.{◌≡◌, ℕ, suc, ◌+◌, Bool, true, false, List, [], ◌∷◌, ◌++◌, length, drop, Option, Some, None, refl, subst, arith}
-use Rattle.std.specs.Prelude.{slice_get, option_map}
+use Rattle.std.specs.Prelude.{slice_get, option_map, codes, not, ◌&&◌, ◌==◌}
 use Rattle.std.specs.Option.{ForSome, option_or}
 use Rattle.std.specs.List.{list_any}
+use Rattle.std.proofs.lemmas.Bool.Decides.{nat_tests}
+use Rattle.mqsc_define.specs.Values.{is_text}
 use Rattle.mqsc_lex.specs.declared.words.Word.{Word}
 use Rattle.mqsc_lex.specs.declared.words.Text.{Text}
 use Rattle.qsg_draft.specs.Contents.{Contents}
@@ -76,3 +78,22 @@ log-right c words e = row-right c row.Member keyword.Log refl (λ word h. rw h r
 
 pub elements-right : (c : Contents) (words : List Word) → row_fault c row.Facility words ≡ None → HasRight keyword.Elements (drop 2 words)
 elements-right c words e = row-right c row.Facility keyword.Elements refl (λ word h. rw h refl) words e
+
+-- a word of BLOCKS is none of ELEMENTS: they begin with other letters
+texts-apart : (text : List ℕ) → is_text (codes "BLOCKS") text ≡ true → is_text (codes "ELEMENTS") text ≡ false
+texts-apart [] is = refl
+texts-apart (b ∷ bs) is = by (b == 66) refl is
+  where
+    by : (first : Bool) → (b == 66) ≡ first → (first && is_text (codes "LOCKS") bs) ≡ true → is_text (codes "ELEMENTS") (b ∷ bs) ≡ false
+    by true here rest = let apart : (b == 69) ≡ false = grind (arith, nat_tests, here) in rw apart refl
+    by false here rest = absurd cc
+
+blocks-apart : (word : Word) → has_keyword keyword.Blocks word ≡ true → has_keyword keyword.Elements word ≡ false
+blocks-apart word is = by word.key_quoted is
+  where
+    by : (quoted : Bool) → (not quoted && is_text (codes "BLOCKS") word.key) ≡ true → (not quoted && is_text (codes "ELEMENTS") word.key) ≡ false
+    by true none = refl
+    by false text = texts-apart word.key text
+
+pub blocks-right : (c : Contents) (words : List Word) → row_fault c row.Facility words ≡ None → HasRight keyword.Blocks (drop 2 words)
+blocks-right c words e = row-right c row.Facility keyword.Blocks refl (λ word h. rw (blocks-apart word h, h) refl) words e

@@ -5,5 +5,6 @@ pub mod Words
 pub mod Objects
 pub mod Sections
 pub mod Order
+pub mod Facilities
 pub mod Kept
 pub mod Plans

@@ -14,8 +14,11 @@ use Rattle.qsg_draft.specs.Plans.{works_of, plan_of}
 use Rattle.qsg_draft.specs.Sizes.{default_size, size_or, size_of}
 use Rattle.qsg_script.specs.Script.{IsPlan}
 use Rattle.qsg_script.proofs.Order.{works-in-order}
+use Rattle.qsg_devices.specs.Shapes.{shapes_of, IsSetSized}
+use Rattle.qsg_devices.proofs.Paired.{all_paired}
 use Rattle.qsg_sysplex.specs.Plans.{AreRight, AreWithin, directives_of, IsWorkable}
 use Rattle.qsg_plans.specs.Plans.{HasElements, IsWorkOf, AreInOrder, IsInRange}
+use Rattle.qsg_plans.proofs.Facilities.{sets-sized}
 use Rattle.qsg_plans.proofs.Kept.{IsFacilitySized, IsInBounds, script-in-bounds}
 use Rattle.qsg_plans.proofs.Lines.{items-below}
 use Rattle.qsg_plans.proofs.Objects.{queues-placed, structures-few}
@@ -34,6 +37,13 @@ sizes-have : (fs : List (StructNo × Size)) (ss : List Cfstruct) → AllByRecurs
 sizes-have fs [] each = tt
 sizes-have fs (s ∷ ss) each = (size-has fs s each, sizes-have fs ss each)
 
+-- the data sets of each structure have their sizes
+sets-right : (n : ℕ) (c : Contents) → IsInBounds n c → AllByRecursion IsSetSized (shapes_of (map (size_of c.facilities) c.objects.structures) c.objects)
+sets-right n c kept =
+    let each : length (map (size_of c.facilities) c.objects.structures) ≡ length c.objects.structures = length-map (size_of c.facilities) c.objects.structures in
+    let few = structures-few c.objects kept.defined in
+    subst (AllByRecursion IsSetSized) (sym (all_paired (map (size_of c.facilities) c.objects.structures) c.objects each (omega (arith, few, each)))) (sets-sized c.facilities c.objects.structures kept.sets)
+
 -- what is kept of contents makes their plan workable
 contents-workable : (n : ℕ) (c : Contents) → IsInBounds n c → n < 2 ^ 30 → IsWorkable (plan_of c)
 contents-workable n c kept low =
@@ -45,6 +55,7 @@ contents-workable n c kept low =
       logs = kept.logs;
       four = let few = structures-few c.objects kept.defined in let each = length-map (size_of c.facilities) c.objects.structures in omega (arith, few, each);
       sizes = length-map (size_of c.facilities) c.objects.structures;
+      sets = sets-right n c kept;
       queues = queues-placed c.objects kept.defined;
       right = works-all AreRight c.sections tt kept.right;
       within = works-all (AreWithin (length c.members)) c.sections tt kept.within;

@@ -1,8 +1,7 @@
 -- what holds of each section, and how many directives there are, when a section is opened or gets a directive
 use Rattle.std.proofs.Common.{◌≡◌, ℕ, ◌+◌, ◌≤◌, Bool, true, false, cond, nat_lt, List, [], ◌∷◌, ◌++◌, length, refl, arith}
-use Rattle.std.specs.Prelude.{count_by}
 use Rattle.std.specs.List.{AllByRecursion, list_any}
-use Rattle.std.proofs.lemmas.List.Sums.{sum_by-cons, sum_by_push, count_by-le-length}
+use Rattle.std.proofs.lemmas.List.Sums.{sum_by-cons, sum_by_push}
 use Rattle.qsg_num.specs.declared.ids.Actor.{Actor}
 use Rattle.qsg_num.specs.declared.ids.Actor.TheVariants.{Operator}
 use Rattle.qsg_objects.specs.declared.directives.Directive.{Directive}

@@ -10,7 +10,11 @@ use Rattle.mqsc_define.specs.Values.{is_at_least}
 use Rattle.qsg_num.specs.declared.seats.Member.{Member}
 use Rattle.qsg_num.specs.declared.seats.Member.TheVariants.{One}
 use Rattle.qsg_num.specs.declared.ids.Actor.TheVariants.{Task}
-use Rattle.qsg_num.specs.Seats.{member_number, member_at}
+use Rattle.qsg_num.specs.declared.seats.StructNo.{StructNo}
+use Rattle.qsg_num.specs.declared.seats.StructNo.TheVariants.{One as First}
+use Rattle.qsg_num.specs.Seats.{member_number, member_at, structure_number}
+use Rattle.qsg_objects.specs.Registry.{AreNumbered, number_named}
+use Rattle.qsg_objects.proofs.Kept.{number-counted}
 use Rattle.qsg_directives.specs.Bodies.{IsSized}
 use Rattle.qsg_draft.specs.Contents.{Contents}
 use Rattle.qsg_draft.specs.Lookups.{is_member, member_named}
@@ -20,7 +24,7 @@ use Rattle.qsg_grammar.specs.declared.slots.Slot.{Slot}
 use Rattle.qsg_grammar.specs.declared.slots.Slot.TheVariants as slot
 use Rattle.qsg_grammar.specs.Values.{bad_number_unless, name_fault, text_fault, is_repeated, task_of}
 use Rattle.qsg_grammar.specs.Faults.{subject_of, unknown_if, repeated_if, slot_fault, word_fault, words_fault, missing_fault, row_fault}
-use Rattle.qsg_statement.specs.Words.{key_at, member_of, body_by}
+use Rattle.qsg_statement.specs.Words.{key_at, member_of, structure_of, body_by}
 use Rattle.qsg_statement.proofs.Bodies.{neither}
 use Rattle.qsg_plans.specs.Plans.{IsActorOf}
 use Rattle.qsg_plans.proofs.Numbers.{number-most, number-least, member-at, task-at}
@@ -91,6 +95,23 @@ start-within c (w0 ∷ w1 ∷ ws) e =
     let first = neither (word_fault c row.Start [] w1) (words_fault c row.Start (w1 ∷ []) ws) all.0 in
     let some = is-defined 1 _ (is_some (member_named w1.key c)) (text-right c [] slot.Member w1 first.0) in
     some-within (member_named w1.key c) (length c.members) some (named-within w1.key c)
+
+-- the structure of a FACILITY is one of those there are
+some-counted : (o : Option StructNo) (most : ℕ) → is_some o ≡ true → ((s : StructNo) → o ≡ Some s → structure_number s ≤ most) → structure_number (unwrap_or o First) ≤ most
+some-counted None most is each = absurd cc
+some-counted (Some s) most is each = each s refl
+
+pub facility-within : (c : Contents) (words : List Word) → AreNumbered 1 c.objects.structures → row_fault c row.Facility words ≡ None → structure_number (structure_of (key_at 1 words) c) ≤ length c.objects.structures
+facility-within c [] numbered e = absurd cc
+facility-within c (w0 ∷ []) numbered e =
+    let missing = (neither (words_fault c row.Facility [] []) (missing_fault row.Facility []) e).1 in
+    let said : missing_fault row.Facility [] ≡ None = missing in
+    absurd cc
+facility-within c (w0 ∷ w1 ∷ ws) numbered e =
+    let all = neither (words_fault c row.Facility [] (w1 ∷ ws)) (missing_fault row.Facility (w1 ∷ ws)) e in
+    let first = neither (word_fault c row.Facility [] w1) (words_fault c row.Facility (w1 ∷ []) ws) all.0 in
+    let some = is-defined 1 _ (is_some (number_named w1.key c.objects)) (text-right c [] slot.NewFacility w1 first.0) in
+    some-counted (number_named w1.key c.objects) (length c.objects.structures) some (λ s is. number-counted w1.key c.objects.structures s numbered is)
 
 -- a body by its size is at most the longest
 pub body-sized : (body hex size : Option (List ℕ)) → IsSized (body_by body hex size)

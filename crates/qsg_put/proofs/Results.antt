@@ -133,20 +133,22 @@ fallen_same t u false log = record { tells = refl; bytes = refl; faults = refl; 
 
 -- the parts of a group that a put leaves
 pub record Leaves (p q : Owned) : Type 0 where
+  pub datasets : q.datasets ≡ p.datasets
   pub repo : q.repo ≡ p.repo
   pub objects : q.objects ≡ p.objects
   pub history : q.history ≡ p.history
   pub logs : (k : Member) → IsSameLog (log_in k p.logs) (log_in k q.logs)
 
 all_left : (p : Owned) → Leaves p p
-all_left p = record { repo = refl; objects = refl; history = refl; logs = λ k. unchanged (log_in k p.logs) }
+all_left p = record { datasets = refl; repo = refl; objects = refl; history = refl; logs = λ k. unchanged (log_in k p.logs) }
 
 fall_left : (m : Member) (t : TaskNo) (u : UnitName) (p : Owned) → Leaves p (fallen m t u p)
-fall_left m t u p = record { repo = refl; objects = refl; history = refl; logs = at_a_log m (fallen_back t u (has_operations m t p.managers)) p.logs (fallen_same t u (has_operations m t p.managers) (log_in m p.logs)) }
+fall_left m t u p = record { datasets = refl; repo = refl; objects = refl; history = refl; logs = at_a_log m (fallen_back t u (has_operations m t p.managers)) p.logs (fallen_same t u (has_operations m t p.managers) (log_in m p.logs)) }
 
 reserve_left : (m : Member) (t : TaskNo) (words : PutWords) (terms : Terms) (p : Owned) (answer : Result (Unit {0}) NoPages) → Leaves p (after_reserve m t words terms p answer).parts
 reserve_left m t words terms p (Err refused) = all_left p
 reserve_left m t words terms p (Ok done) = record {
+  datasets = refl;
   repo = refl;
   objects = refl;
   history = refl;
@@ -168,6 +170,7 @@ refusal_left m t u terms epoch p None = all_left p
 write_left : (m : Member) (t : TaskNo) (words : PutWords) (u : UnitName) (terms : Terms) (epoch : ℕ) (p : Owned) (refusal : Option WriteWhy) → Leaves p (after_write m t words u terms epoch p refusal).parts
 write_left m t words u terms epoch p (Some why) = refusal_left m t u terms epoch p (reason_of why)
 write_left m t words u terms epoch p None = record {
+  datasets = refl;
   repo = refl;
   objects = refl;
   history = refl;

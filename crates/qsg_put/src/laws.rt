@@ -53,9 +53,10 @@ pub fn names_stay_of_their_members()
     ensures { (g h : Group) → Change g h → AreOwn g.tasks → AreOwn h.tasks }
 {}
 
-/// A put leaves the repository, the objects and the history as they are, and of each log all but what is reserved and how
-/// far the records of units fill their pages.
+/// A put leaves the data sets, the repository, the objects and the history as they are, and of each log all but what is
+/// reserved and how far the records of units fill their pages.
 pub fn a_put_leaves_the_rest()
+    ensures datasets { (work : Work) (p : Owned) → (next_put work p).parts.datasets ≡ p.datasets }
     ensures repo { (work : Work) (p : Owned) → (next_put work p).parts.repo ≡ p.repo }
     ensures objects { (work : Work) (p : Owned) → (next_put work p).parts.objects ≡ p.objects }
     ensures history { (work : Work) (p : Owned) → (next_put work p).parts.history ≡ p.history }

@@ -13,6 +13,7 @@ ghost use Rattle.qsg_put.specs.Needs.{MayCheck, IsReady};
 
 use crate::steps::{check_and_reserve, connect, write};
 use crate::{Phase, PutWork, Terms, check};
+use qsg_datasets::DataSets;
 use qsg_disk_mem::MemDisk;
 use qsg_lists::Structure;
 use qsg_logs::{Logs, MemberLog};
@@ -226,6 +227,7 @@ fn parts(alloc: Global, lost: bool) -> Result<Parts<MemDisk>, Fail>
         structures: structures(alloc, lost)?,
         managers: managers(alloc)?,
         logs: logs(alloc)?,
+        datasets: DataSets::from_vec(Vec::new(alloc)),
         repo: Repo::new(alloc, 1, 2, [true, false, false, false], 1)?,
         objects: few(objects(alloc)?)?,
         history: History::new(alloc),

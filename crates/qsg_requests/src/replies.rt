@@ -53,6 +53,8 @@ pub enum Reason {
         need: u32,
         free: u32,
     },
+    /// DSFAULT: the owner of the data set may not use it, or a call on the data set failed in a step of this request.
+    DataSetFault,
     /// DOWN: a CRASH of a member that isn't up. It changes nothing.
     Down,
     /// UP: a START of a member that is up. It changes nothing.
@@ -115,6 +117,8 @@ pub enum Cause {
     LogBusy(TaskNo),
     /// That actor has given fewer answers than so many.
     Until(Actor, u32),
+    /// That task of the member which is to stop has a unit with operations, or a request or work in progress.
+    Quiescing(TaskNo),
     /// That task reads the log that a START would read and then write. The member of the log isn't up; the task is that
     /// of a peer.
     Reading(Member, TaskNo),

@@ -1,9 +1,9 @@
 -- the replay of a plan
-use Rattle.std.specs.Prelude.{ℕ, ◌≡◌, ◌≤◌, Bool, true, false, List, length, Option, Some, None}
+use Rattle.std.specs.Prelude.{ℕ, ◌≡◌, Bool, true, false, List, Option, Some, None, IfSome}
 use Rattle.qsg_num.specs.declared.seats.Member.{Member}
-use Rattle.qsg_num.specs.Seats.{member_number}
 use Rattle.qsg_disk.specs.Byte.{Byte}
-use Rattle.qsg_logs.specs.Kept.{log_in}
+use Rattle.qsg_disk.specs.declared.kinds.Kind.{Kind}
+use Rattle.qsg_devices.specs.Places.{device_bytes}
 use Rattle.qsg_num.specs.declared.ids.Actor.{Actor}
 use Rattle.qsg_objects.specs.declared.plans.Plan.{Plan}
 use Rattle.qsg_schedule.specs.Course.{Course, listed, seeded}
@@ -41,14 +41,14 @@ pub record IsReported (actors : List Actor) (s : State) (status : Status) (text 
   pub seen : IsShown (waits_of actors s) s shown
   pub report : text ≡ report_text actors (λ who. told_to who s) s.parts.history.items shown
 
--- what a rig tells it was given back: of each member, the bytes of its log
+-- what a rig tells it was given back: of each member and kind, the bytes of the device
 pub record GivenBack : Type 0 where
   pub tells : Bool
-  pub logs : Member → Option (List Byte)
+  pub devices : Member → Kind → Option (List Byte)
 
--- it was given back the logs of a state, where it tells that
+-- it was given back the logs and the data sets of a state, where it tells that
 abbrev pub AreGivenBack : GivenBack → State → Type 0
-AreGivenBack back s = back.tells ≡ true → (m : Member) → member_number m ≤ length s.parts.logs → back.logs m ≡ Some (log_in m s.parts.logs).bytes
+AreGivenBack back s = back.tells ≡ true → (m : Member) (k : Kind) → IfSome (device_bytes s.parts.logs s.parts.datasets m k) (λ bytes. back.devices m k ≡ Some bytes)
 
 -- A new group of the plan ran, by the picks of the replay, to a state in which no actor's step moves, the text is its
 -- report, and the rig has its devices again.

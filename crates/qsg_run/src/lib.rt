@@ -7,8 +7,10 @@
 //! - `replays`: the replay of a plan, from its new group to the report.
 //! - `groups`: a group as the drive steps it.
 //! - `shows`: what the report shows of a group.
+//! - `data_sets`: what it shows of the group's data sets.
 #![tactic(auto)]
 
+mod data_sets;
 mod dues;
 mod groups;
 mod outside;

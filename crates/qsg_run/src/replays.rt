@@ -1,7 +1,6 @@
 //! The replay of a plan, from its new group to the report.
 
 ghost use Rattle.std.specs.Prelude.{◌≡◌, ◌≤◌, ◌<◌, List, length, option_map, IfOk, IfErr, OnOk};
-ghost use Rattle.qsg_disk.specs.declared.kinds.Kind.TheVariants.{Log};
 ghost use Rattle.qsg_sysplex.specs.Plans.{IsWorkable};
 ghost use Rattle.qsg_words.specs.declared.command.Command.TheVariants as commands;
 ghost use Rattle.qsg_drive.specs.Runs.{Made, IsRun, IsNewCourse};
@@ -90,7 +89,7 @@ pub fn replay_plan<R: Rig>(
     rig: &mut R,
 ) -> Result<Due, Stop>
     requires { IsWorkable plan }
-    ensures due { IfOk result (λ due. IsReplayed seed plan (record { tells = R.tells rig.old; logs = λ m. option_map (λ d. R.D.bytes d) (R.given rig.new m Log) }) due.status due.text) }
+    ensures due { IfOk result (λ due. IsReplayed seed plan (record { tells = R.tells rig.old; devices = λ m k. option_map (λ d. R.D.bytes d) (R.given rig.new m k) }) due.status due.text) }
     ensures stop { IfErr result (IsNoRun (commands.Replay seed) (R.faults rig.old) (R.faults rig.new)) }
     ensures later { R.faults rig.old ≤ R.faults rig.new }
 {

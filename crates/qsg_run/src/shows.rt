@@ -7,6 +7,7 @@ ghost use Rattle.qsg_manager.specs.Facilities.{structure_in};
 ghost use Rattle.qsg_shown.specs.Showing.{seen, member_shown, member_at, structure_seen, structure_at, queue_shown, queues_shown, IsShown};
 ghost use Rattle.qsg_run.specs.Shows.{wait_shown, waits_of};
 
+use crate::data_sets::{EVERY_STRUCTURE, push_data_sets};
 use qsg_disk::Disk;
 use qsg_num::{Actor, Member, Name, StructNo};
 use qsg_objects::{Cfstruct, MemberDef, Queue};
@@ -25,14 +26,6 @@ const EVERY_MEMBER: [Member; 8] = [
     Member::Six,
     Member::Seven,
     Member::Eight,
-];
-
-/// The structures that a group may have.
-const EVERY_STRUCTURE: [StructNo; 4] = [
-    StructNo::One,
-    StructNo::Two,
-    StructNo::Three,
-    StructNo::Four,
 ];
 
 /// A member of a group, by its definition.
@@ -223,6 +216,8 @@ pub fn shown_of<D: Disk + Drop>(
     push_structures(alloc, &mut structures, sysplex, &EVERY_STRUCTURE)?;
     let mut queues = Vec::new(alloc);
     push_queues(&mut queues, sysplex)?;
+    let mut datasets = Vec::new(alloc);
+    push_data_sets(&mut datasets, sysplex, &EVERY_MEMBER)?;
     let mut waits = Vec::new(alloc);
     push_waits(&mut waits, sysplex, actors)?;
     Ok(Shown {
@@ -230,7 +225,7 @@ pub fn shown_of<D: Disk + Drop>(
         members,
         structures,
         queues,
-        datasets: Vec::new(alloc),
+        datasets,
         failed: show_failures(alloc, &sysplex.parts().repo, sysplex.tallies())?,
         waits,
     })

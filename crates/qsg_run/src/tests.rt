@@ -17,14 +17,14 @@ const HEAD: &str =
 const HELLO: &str = "TASK QM1 1\nPUT Q1 BODY('hello')\nCOMMIT\nGET Q1\nCOMMIT\nEND\n";
 
 const HELLO_REPORT: &str =
-    "group QSG1\ntask QM1 1\n1 PUT OK 0.1 inside\n2 COMMIT OK QM1/1/1 1\n3 GET OK 0.1 pri 0 pers 0 msgid - correlid - body 5 68656c6c6f\n4 COMMIT OK QM1/1/2 1\nunit QM1/1/1 put 0.1\nunit QM1/1/2 got 0.1\nstructure APP1 active epoch 0 used 0 of 65536\nqueue Q1 depth 0\nlog QM1 pages 2 of 8192\nmember QM1 up 1\nfinished\n";
+    "group QSG1\ntask QM1 1\n1 PUT OK 0.1 inside\n2 COMMIT OK QM1/1/1 1\n3 GET OK 0.1 pri 0 pers 0 msgid - correlid - body 5 68656c6c6f\n4 COMMIT OK QM1/1/2 1\nunit QM1/1/1 put 0.1\nunit QM1/1/2 got 0.1\nstructure APP1 active epoch 0 used 0 of 65536\nqueue Q1 depth 0\ndataset QM1 APP1 used 0 of 64\nlog QM1 pages 2 of 8192\nmember QM1 up 1\nfinished\n";
 
 /// A member that crashes when its unit's last page is whole, and starts again.
 const CRASHED: &str =
     "TASK QM1 1\nPUT Q1 BODY('a')\nCOMMIT\nOPERATOR\nCRASH QM1\nSTART QM1\nSCHEDULE\nQM1 1 8\nOPERATOR 1\nEND\n";
 
 const CRASHED_REPORT: &str =
-    "group QSG1\ntask QM1 0\n1 RESOLVED QM1/1 1\ntask QM1 1\n1 PUT OK 0.1 inside\n2 COMMIT 2009\noperator\n1 CRASH OK\n2 START OK 2\nunit QM1/1/1 put 0.1\nfailed QM1/1 resolved QM1 1\nstructure APP1 active epoch 0 used 2 of 65536\nentry 0.1 Q1 pri 0 pers 0 visible inside 1\nqueue Q1 depth 1\nlog QM1 pages 1 of 8192\nmember QM1 up 2\nfinished\n";
+    "group QSG1\ntask QM1 0\n1 RESOLVED QM1/1 1\ntask QM1 1\n1 PUT OK 0.1 inside\n2 COMMIT 2009\noperator\n1 CRASH OK\n2 START OK 2\nunit QM1/1/1 put 0.1\nfailed QM1/1 resolved QM1 1\nstructure APP1 active epoch 0 used 2 of 65536\nentry 0.1 Q1 pri 0 pers 0 visible inside 1\nqueue Q1 depth 1\ndataset QM1 APP1 used 0 of 64\nlog QM1 pages 1 of 8192\nmember QM1 up 2\nfinished\n";
 
 const USAGE: &str = "usage: qsg replay [--seed N] / run / check / gen N / soak N\n";
 
@@ -104,28 +104,28 @@ fn groups_at_work(rt: HostRuntime) -> Result<(), Fail> {
             GROUP_OF_TWO,
             "TASK QM1 1\nPUT Q1 BODY('low') PRI(1)\nPUT Q1 BODY('high') PRI(9)\nPUT Q2 BODY('old') PRI(1)\nPUT Q2 BODY('new') PRI(9)\nPUT Q2 BODY('c')\nPUT Q2 BODY('large')\nPUT Q2 BODY('p') PERS(1)\nPUT Q3 BODY('x')\nGET Q4\nPUT Q9\nGET Q1\nCOMMIT\nTASK QM2 1\nWAIT QM1 1 12\nGET Q1\nGET Q1\nGET Q2\nGET Q2\nGET Q2\nBACKOUT\nGET Q2\nCOMMIT\nBACKUP CFSTRUCT(APP1)\nEND\n",
             Status::Finished,
-            "group QSG1\ntask QM1 1\n1 PUT OK 0.1 inside\n2 PUT OK 0.2 inside\n3 PUT OK 0.1 inside\n4 PUT OK 0.2 inside\n5 PUT 2053 depth 2\n6 PUT 2030\n7 PUT 2048\n8 PUT 2051\n9 GET 2016\n10 PUT 2085\n11 GET 2033\n12 COMMIT OK QM1/1/1 4\ntask QM2 1\n1 WAIT OK\n2 GET OK 0.2 pri 9 pers 0 msgid - correlid - body 4 68696768\n3 GET OK 0.1 pri 1 pers 0 msgid - correlid - body 3 6c6f77\n4 GET OK 0.1 pri 1 pers 0 msgid - correlid - body 3 6f6c64\n5 GET OK 0.2 pri 9 pers 0 msgid - correlid - body 3 6e6577\n6 GET 2033\n7 BACKOUT OK QM2/1/1 4\n8 GET OK 0.1 pri 1 pers 0 msgid - correlid - body 3 6f6c64\n9 COMMIT OK QM2/1/2 1\n10 BACKUP NOTYET\nunit QM1/1/1 put 0.1 put 0.2 put 0.1 put 0.2\nunit QM2/1/2 got 0.1\nstructure APP1 active epoch 0 used 4 of 65536\nstructure APP2 active epoch 0 used 2 of 65536\nentry 0.1 Q1 pri 1 pers 0 visible inside 3\nentry 0.2 Q1 pri 9 pers 0 visible inside 4\nentry 0.2 Q2 pri 9 pers 0 visible inside 3\nqueue Q1 depth 2\nqueue Q2 depth 1\nqueue Q3 depth 0\nqueue Q4 depth 0\nlog QM1 pages 1 of 8192\nlog QM2 pages 1 of 8192\nmember QM1 up 1\nmember QM2 up 1\nfinished\n",
+            "group QSG1\ntask QM1 1\n1 PUT OK 0.1 inside\n2 PUT OK 0.2 inside\n3 PUT OK 0.1 inside\n4 PUT OK 0.2 inside\n5 PUT 2053 depth 2\n6 PUT 2030\n7 PUT 2048\n8 PUT 2051\n9 GET 2016\n10 PUT 2085\n11 GET 2033\n12 COMMIT OK QM1/1/1 4\ntask QM2 1\n1 WAIT OK\n2 GET OK 0.2 pri 9 pers 0 msgid - correlid - body 4 68696768\n3 GET OK 0.1 pri 1 pers 0 msgid - correlid - body 3 6c6f77\n4 GET OK 0.1 pri 1 pers 0 msgid - correlid - body 3 6f6c64\n5 GET OK 0.2 pri 9 pers 0 msgid - correlid - body 3 6e6577\n6 GET 2033\n7 BACKOUT OK QM2/1/1 4\n8 GET OK 0.1 pri 1 pers 0 msgid - correlid - body 3 6f6c64\n9 COMMIT OK QM2/1/2 1\n10 BACKUP NOTYET\nunit QM1/1/1 put 0.1 put 0.2 put 0.1 put 0.2\nunit QM2/1/2 got 0.1\nstructure APP1 active epoch 0 used 4 of 65536\nstructure APP2 active epoch 0 used 2 of 65536\nentry 0.1 Q1 pri 1 pers 0 visible inside 3\nentry 0.2 Q1 pri 9 pers 0 visible inside 4\nentry 0.2 Q2 pri 9 pers 0 visible inside 3\nqueue Q1 depth 2\nqueue Q2 depth 1\nqueue Q3 depth 0\nqueue Q4 depth 0\ndataset QM1 APP1 used 0 of 64\ndataset QM1 APP2 used 0 of 64\ndataset QM2 APP1 used 0 of 64\ndataset QM2 APP2 used 0 of 64\nlog QM1 pages 1 of 8192\nlog QM2 pages 1 of 8192\nmember QM1 up 1\nmember QM2 up 1\nfinished\n",
         ),
         // a structure and a log that are full
         (
             GROUP_OF_ONE,
             "TASK QM1 1\nPUT Q1 SIZE(8081) PERS(1)\nPUT Q1 SIZE(8080) PERS(1)\nCOMMIT\nPUT Q1 BODY('one more')\nPUT Q1 SIZE(1793)\nCOMMIT\nEND\n",
             Status::Finished,
-            "group QSG1\ntask QM1 1\n1 PUT NOLOG need 3 free 2\n2 PUT OK 0.1 inside\n3 COMMIT OK QM1/1/1 1\n4 PUT NOLOG need 1 free 0\n5 PUT NOLOG need 1 free 0\n6 COMMIT OK - 0\nunit QM1/1/1 put 0.1\nstructure APP1 active epoch 0 used 33 of 40\nentry 0.1 Q1 pri 0 pers 1 visible inside 8080\nqueue Q1 depth 1\nlog QM1 pages 2 of 2\nmember QM1 up 1\nfinished\n",
+            "group QSG1\ntask QM1 1\n1 PUT NOLOG need 3 free 2\n2 PUT OK 0.1 inside\n3 COMMIT OK QM1/1/1 1\n4 PUT NOLOG need 1 free 0\n5 PUT NOLOG need 1 free 0\n6 COMMIT OK - 0\nunit QM1/1/1 put 0.1\nstructure APP1 active epoch 0 used 33 of 40\nentry 0.1 Q1 pri 0 pers 1 visible inside 8080\nqueue Q1 depth 1\ndataset QM1 APP1 used 0 of 64\nlog QM1 pages 2 of 2\nmember QM1 up 1\nfinished\n",
         ),
         // no elements for a body
         (
             GROUP_OF_ONE,
             "TASK QM1 1\nPUT Q1 SIZE(9985)\nPUT Q1 SIZE(9984)\nPUT Q1\nCOMMIT\nEND\n",
             Status::Finished,
-            "group QSG1\ntask QM1 1\n1 PUT 2192 structure need 41 free 40\n2 PUT OK 0.1 inside\n3 PUT 2192 structure need 1 free 0\n4 COMMIT OK QM1/1/1 1\nunit QM1/1/1 put 0.1\nstructure APP1 active epoch 0 used 40 of 40\nentry 0.1 Q1 pri 0 pers 0 visible inside 9984\nqueue Q1 depth 1\nlog QM1 pages 1 of 2\nmember QM1 up 1\nfinished\n",
+            "group QSG1\ntask QM1 1\n1 PUT 2192 structure need 41 free 40\n2 PUT OK 0.1 inside\n3 PUT 2192 structure need 1 free 0\n4 COMMIT OK QM1/1/1 1\nunit QM1/1/1 put 0.1\nstructure APP1 active epoch 0 used 40 of 40\nentry 0.1 Q1 pri 0 pers 0 visible inside 9984\nqueue Q1 depth 1\ndataset QM1 APP1 used 0 of 64\nlog QM1 pages 1 of 2\nmember QM1 up 1\nfinished\n",
         ),
         // a task behind the latch of another, and one that waits for ever
         (
             GROUP_OF_ONE,
             "TASK QM1 1\nPUT Q1 BODY('a')\nCOMMIT\nTASK QM1 2\nPUT Q1 BODY('b')\nCOMMIT\nWAIT QM1 1 3\nSCHEDULE\nQM1 1 5\nQM1 2 6\nEND\n",
             Status::Stuck,
-            "group QSG1\ntask QM1 1\n1 PUT OK 0.1 inside\n2 COMMIT OK QM1/1/1 1\ntask QM1 2\n1 PUT OK 0.2 inside\n2 COMMIT OK QM1/1/2 1\nunit QM1/1/1 put 0.1\nunit QM1/1/2 put 0.2\nstructure APP1 active epoch 0 used 4 of 40\nentry 0.1 Q1 pri 0 pers 0 visible inside 1\nentry 0.2 Q1 pri 0 pers 0 visible inside 1\nqueue Q1 depth 2\nlog QM1 pages 2 of 2\nmember QM1 up 1\nwaits QM1 2 until QM1 1 3\nstuck\n",
+            "group QSG1\ntask QM1 1\n1 PUT OK 0.1 inside\n2 COMMIT OK QM1/1/1 1\ntask QM1 2\n1 PUT OK 0.2 inside\n2 COMMIT OK QM1/1/2 1\nunit QM1/1/1 put 0.1\nunit QM1/1/2 put 0.2\nstructure APP1 active epoch 0 used 4 of 40\nentry 0.1 Q1 pri 0 pers 0 visible inside 1\nentry 0.2 Q1 pri 0 pers 0 visible inside 1\nqueue Q1 depth 2\ndataset QM1 APP1 used 0 of 64\nlog QM1 pages 2 of 2\nmember QM1 up 1\nwaits QM1 2 until QM1 1 3\nstuck\n",
         ),
     ] {
         let (ended, sink) = called(rt.alloc(), "replay", script(rt.alloc(), head, lines)?)?;
@@ -448,7 +448,7 @@ fn a_log_fails(rt: HostRuntime) -> Result<(), Fail> {
     assert_eq!(rt; ended, Status::Stuck);
     assert_eq!(rt;
         sink.written(),
-        b"group QSG1\ntask QM1 1\n1 PUT OK 0.1 inside\n2 COMMIT 2009\nfailed QM1/1 unresolved\nstructure APP1 active epoch 0 used 2 of 65536\nentry 0.1 Q1 pri 0 pers 0 put QM1/1/1 inside 5\nqueue Q1 depth 1\nlog QM1 pages 0 of 8192\nmember QM1 down 1\nwaits QM1 1 down\nstuck\n".as_slice()
+        b"group QSG1\ntask QM1 1\n1 PUT OK 0.1 inside\n2 COMMIT 2009\nfailed QM1/1 unresolved\nstructure APP1 active epoch 0 used 2 of 65536\nentry 0.1 Q1 pri 0 pers 0 put QM1/1/1 inside 5\nqueue Q1 depth 1\ndataset QM1 APP1 used - of 64\nlog QM1 pages 0 of 8192\nmember QM1 down 1\nwaits QM1 1 down\nstuck\n".as_slice()
     );
     assert!(rt; rig.device_of(Member::One, Kind::Log).is_some());
     Ok(())
@@ -460,12 +460,12 @@ fn a_log_cannot_be_read(rt: HostRuntime) -> Result<(), Fail> {
         // a peer gives up, and tries again once its own member comes up
         (
             "TASK QM1 1\nPUT Q1 BODY('a')\nOPERATOR\nCRASH QM1\nCRASH QM2\nSTART QM2\nSCHEDULE\nQM1 1 3\nOPERATOR 1\nQM2 0 3\nOPERATOR 1\n",
-            "group QSG1\ntask QM1 1\n1 PUT OK 0.1 inside\ntask QM2 0\n1 GAVEUP QM1/1 device\n2 RESOLVED QM1/1 1\n3 RESOLVED QM2/1 0\noperator\n1 CRASH OK\n2 CRASH OK\n3 START OK 2\nfailed QM1/1 resolved QM2 1\nfailed QM2/1 resolved\nstructure APP1 active epoch 0 used 0 of 65536\nqueue Q1 depth 0\nlog QM1 pages 0 of 16\nlog QM2 pages 0 of 16\nmember QM1 down 1\nmember QM2 up 2\nfinished\n",
+            "group QSG1\ntask QM1 1\n1 PUT OK 0.1 inside\ntask QM2 0\n1 GAVEUP QM1/1 device\n2 RESOLVED QM1/1 1\n3 RESOLVED QM2/1 0\noperator\n1 CRASH OK\n2 CRASH OK\n3 START OK 2\nfailed QM1/1 resolved QM2 1\nfailed QM2/1 resolved\nstructure APP1 active epoch 0 used 0 of 65536\nqueue Q1 depth 0\ndataset QM1 APP1 used - of 64\ndataset QM2 APP1 used 0 of 64\nlog QM1 pages 0 of 16\nlog QM2 pages 0 of 16\nmember QM1 down 1\nmember QM2 up 2\nfinished\n",
         ),
         // a START is refused, and uses no incarnation
         (
             "TASK QM1 1\nPUT Q1 BODY('a')\nOPERATOR\nCRASH QM1\nSTART QM1\nSTART QM1\nSCHEDULE\nQM1 1 3\nOPERATOR 8\n",
-            "group QSG1\ntask QM1 0\n1 RESOLVED QM1/1 1\ntask QM1 1\n1 PUT OK 0.1 inside\ntask QM2 0\n1 RESOLVED QM1/1 0\noperator\n1 CRASH OK\n2 START LOGFAULT QM1 device\n3 START OK 2\nfailed QM1/1 resolved QM1 1\nstructure APP1 active epoch 0 used 0 of 65536\nqueue Q1 depth 0\nlog QM1 pages 0 of 16\nlog QM2 pages 0 of 16\nmember QM1 up 2\nmember QM2 up 1\nfinished\n",
+            "group QSG1\ntask QM1 0\n1 RESOLVED QM1/1 1\ntask QM1 1\n1 PUT OK 0.1 inside\ntask QM2 0\n1 RESOLVED QM1/1 0\noperator\n1 CRASH OK\n2 START LOGFAULT QM1 device\n3 START OK 2\nfailed QM1/1 resolved QM1 1\nstructure APP1 active epoch 0 used 0 of 65536\nqueue Q1 depth 0\ndataset QM1 APP1 used 0 of 64\ndataset QM2 APP1 used 0 of 64\nlog QM1 pages 0 of 16\nlog QM2 pages 0 of 16\nmember QM1 up 2\nmember QM2 up 1\nfinished\n",
         ),
     ] {
         let failing = vec![in rt.alloc(); (Member::One, Kind::Log, 1)]?;
@@ -518,7 +518,7 @@ fn logs_that_tell_nothing(rt: HostRuntime) -> Result<(), Fail> {
     ] {
         let (ended, sink) = over_pages(rt.alloc(), front)?;
         let text = format!(in rt.alloc();
-            "group QSG1\ntask QM1 1\n1 PUT OK 0.1 inside\ntask QM2 0\n1 GAVEUP QM1/1 {why}\noperator\n1 CRASH OK\n2 START LOGFAULT QM1 {why}\nfailed QM1/1 unresolved\nstructure APP1 active epoch 0 used 2 of 65536\nentry 0.1 Q1 pri 0 pers 0 put QM1/1/1 inside 1\nqueue Q1 depth 1\nlog QM1 pages 0 of 2\nlog QM2 pages 0 of 2\nmember QM1 down 1\nmember QM2 up 1\nfinished\n"
+            "group QSG1\ntask QM1 1\n1 PUT OK 0.1 inside\ntask QM2 0\n1 GAVEUP QM1/1 {why}\noperator\n1 CRASH OK\n2 START LOGFAULT QM1 {why}\nfailed QM1/1 unresolved\nstructure APP1 active epoch 0 used 2 of 65536\nentry 0.1 Q1 pri 0 pers 0 put QM1/1/1 inside 1\nqueue Q1 depth 1\ndataset QM1 APP1 used - of 64\ndataset QM2 APP1 used 0 of 64\nlog QM1 pages 0 of 2\nlog QM2 pages 0 of 2\nmember QM1 down 1\nmember QM2 up 1\nfinished\n"
         )?;
         assert_eq!(rt; ended, Status::Finished, "{why}");
         assert_eq!(rt; sink.written(), text.as_bytes(), "{why}");
@@ -531,7 +531,7 @@ fn logs_that_tell_nothing(rt: HostRuntime) -> Result<(), Fail> {
     assert_eq!(rt; ended, Status::Finished);
     assert_eq!(rt;
         sink.written(),
-        b"group QSG1\ntask QM1 0\n1 RESOLVED QM1/1 0\ntask QM1 1\n1 PUT OK 0.1 inside\ntask QM2 0\n1 RESOLVED QM1/1 1\noperator\n1 CRASH OK\n2 START OK 2\nfailed QM1/1 resolved QM2 1\nstructure APP1 active epoch 0 used 2 of 65536\nentry 0.1 Q1 pri 0 pers 0 visible inside 1\nqueue Q1 depth 1\nlog QM1 pages 2 of 2\nlog QM2 pages 0 of 2\nmember QM1 up 2\nmember QM2 up 1\nfinished\n".as_slice()
+        b"group QSG1\ntask QM1 0\n1 RESOLVED QM1/1 0\ntask QM1 1\n1 PUT OK 0.1 inside\ntask QM2 0\n1 RESOLVED QM1/1 1\noperator\n1 CRASH OK\n2 START OK 2\nfailed QM1/1 resolved QM2 1\nstructure APP1 active epoch 0 used 2 of 65536\nentry 0.1 Q1 pri 0 pers 0 visible inside 1\nqueue Q1 depth 1\ndataset QM1 APP1 used 0 of 64\ndataset QM2 APP1 used 0 of 64\nlog QM1 pages 2 of 2\nlog QM2 pages 0 of 2\nmember QM1 up 2\nmember QM2 up 1\nfinished\n".as_slice()
     );
     Ok(())
 }

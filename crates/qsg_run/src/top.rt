@@ -1,7 +1,6 @@
 //! The top call, which does all that the program does.
 
 ghost use Rattle.std.specs.Prelude.{◌≡◌, ◌≢◌, ◌≤◌, List, ℕ, Option, Some, None, take, map, option_map, IfOk, IfErr, string_bytes};
-ghost use Rattle.qsg_disk.specs.declared.kinds.Kind.TheVariants.{Log};
 ghost use Rattle.qsg_objects.specs.declared.plans.Plan.{Plan};
 ghost use Rattle.qsg_script.specs.declared.faults.ScriptFault.{ScriptFault};
 ghost use Rattle.qsg_script.specs.Script.{IsPlan, IsFirstFault};
@@ -59,7 +58,7 @@ fn plan_of<S: Source>(alloc: Global, source: &mut S) -> Result<Plan, Stop>
 /// What a command makes of a plan.
 fn obeyed<R: Rig>(alloc: Global, command: Command, plan: Plan, rig: &mut R) -> Result<Due, Stop>
     requires { IsWorkable plan }
-    ensures due { IfOk result (λ due. IsObeyed command plan (record { tells = R.tells rig.old; logs = λ m. option_map (λ d. R.D.bytes d) (R.given rig.new m Log) }) due.status due.text) }
+    ensures due { IfOk result (λ due. IsObeyed command plan (record { tells = R.tells rig.old; devices = λ m k. option_map (λ d. R.D.bytes d) (R.given rig.new m k) }) due.status due.text) }
     ensures stop { IfErr result (IsNoRun command (R.faults rig.old) (R.faults rig.new)) }
     ensures later { R.faults rig.old ≤ R.faults rig.new }
 {
@@ -79,8 +78,8 @@ fn outcome<S: Source, R: Rig>(
     source: &mut S,
     rig: &mut R,
 ) -> Result<Due, Stop>
-    ensures due { IfOk result (λ due. IsReport (record { words = map (λ w. string_bytes w) words.now; left = S.left source.old; read_before = S.faults source.old; read_now = S.faults source.new; rig_before = R.faults rig.old; rig_now = R.faults rig.new; back = record { tells = R.tells rig.old; logs = λ m. option_map (λ d. R.D.bytes d) (R.given rig.new m Log) } }) due.status due.text) }
-    ensures stop { IfErr result (IsStop (record { words = map (λ w. string_bytes w) words.now; left = S.left source.old; read_before = S.faults source.old; read_now = S.faults source.new; rig_before = R.faults rig.old; rig_now = R.faults rig.new; back = record { tells = R.tells rig.old; logs = λ m. option_map (λ d. R.D.bytes d) (R.given rig.new m Log) } })) }
+    ensures due { IfOk result (λ due. IsReport (record { words = map (λ w. string_bytes w) words.now; left = S.left source.old; read_before = S.faults source.old; read_now = S.faults source.new; rig_before = R.faults rig.old; rig_now = R.faults rig.new; back = record { tells = R.tells rig.old; devices = λ m k. option_map (λ d. R.D.bytes d) (R.given rig.new m k) } }) due.status due.text) }
+    ensures stop { IfErr result (IsStop (record { words = map (λ w. string_bytes w) words.now; left = S.left source.old; read_before = S.faults source.old; read_now = S.faults source.new; rig_before = R.faults rig.old; rig_now = R.faults rig.new; back = record { tells = R.tells rig.old; devices = λ m k. option_map (λ d. R.D.bytes d) (R.given rig.new m k) } })) }
 {
     let command = command_of(alloc, words)?;
     let plan = plan_of(alloc, source)?;
@@ -129,7 +128,7 @@ fn finish<S: Source, K: Sink, R: Rig>(
     sink: &mut K,
     rig: &mut R,
 ) -> Status
-    ensures { Ends (record { words = map (λ w. string_bytes w) words.now; left = S.left source.old; read_before = S.faults source.old; read_now = S.faults source.new; rig_before = R.faults rig.old; rig_now = R.faults rig.new; back = record { tells = R.tells rig.old; logs = λ m. option_map (λ d. R.D.bytes d) (R.given rig.new m Log) } }) (K.written sink.old) (K.written sink.new) (K.faults sink.old) (K.faults sink.new) result }
+    ensures { Ends (record { words = map (λ w. string_bytes w) words.now; left = S.left source.old; read_before = S.faults source.old; read_now = S.faults source.new; rig_before = R.faults rig.old; rig_now = R.faults rig.new; back = record { tells = R.tells rig.old; devices = λ m k. option_map (λ d. R.D.bytes d) (R.given rig.new m k) } }) (K.written sink.old) (K.written sink.new) (K.faults sink.old) (K.faults sink.new) result }
 {
     match outcome(alloc, words, source, rig) {
         Ok(due) => send(sink, due.text.as_slice(), due.status),
@@ -157,7 +156,7 @@ pub fn replay<S: Source, K: Sink, R: Rig>(
     sink: &mut K,
     rig: &mut R,
 ) -> Status
-    ensures ends { Ends (record { words = map (λ w. string_bytes w) words.now; left = S.left source.old; read_before = S.faults source.old; read_now = S.faults source.new; rig_before = R.faults rig.old; rig_now = R.faults rig.new; back = record { tells = R.tells rig.old; logs = λ m. option_map (λ d. R.D.bytes d) (R.given rig.new m Log) } }) (K.written sink.old) (K.written sink.new) (K.faults sink.old) (K.faults sink.new) result }
+    ensures ends { Ends (record { words = map (λ w. string_bytes w) words.now; left = S.left source.old; read_before = S.faults source.old; read_now = S.faults source.new; rig_before = R.faults rig.old; rig_now = R.faults rig.new; back = record { tells = R.tells rig.old; devices = λ m k. option_map (λ d. R.D.bytes d) (R.given rig.new m k) } }) (K.written sink.old) (K.written sink.new) (K.faults sink.old) (K.faults sink.new) result }
     ensures usage { command_of (map (λ w. string_bytes w) words.now) ≡ None → IsUsage result }
     ensures ran { (seed : Option ℕ) → command_of (map (λ w. string_bytes w) words.now) ≡ Some (commands.Replay seed) → (all : List ℕ) (plan : Plan) →
         S.left source.old ≡ Some all → IsPlan (take read_limit all) plan → HasRun result }

@@ -1,6 +1,6 @@
 -- what a report shows of a group
-use Rattle.std.specs.Prelude.{ℕ, ◌+◌, ◌-◌, ◌*◌, ◌^◌, ◌≡◌, not, List, [], ◌∷◌, map, slice_get, Option, option_map}
-use Rattle.std.specs.List.{filter_map}
+use Rattle.std.specs.Prelude.{ℕ, ◌+◌, ◌-◌, ◌*◌, ◌^◌, ◌≡◌, Bool, not, if◌then◌else◌, List, [], ◌∷◌, map, count_by, slice_get, Option, Some, None, option_map}
+use Rattle.std.specs.List.{filter_map, flat_map}
 use Rattle.std.specs.List.Sorted.{IsPermutation, IsNonDecreasingBy}
 use Rattle.qsg_num.specs.declared.seats.Member.{Member}
 use Rattle.qsg_num.specs.declared.seats.Member.TheVariants as member
@@ -21,7 +21,9 @@ use Rattle.qsg_repo.specs.Tables.{Repository}
 use Rattle.qsg_manager.specs.Facilities.{structure_in}
 use Rattle.qsg_manager.specs.Storage.{manager_in}
 use Rattle.qsg_logs.specs.Kept.{log_in}
+use Rattle.qsg_datasets.specs.Kept.{KeptSet, set_in, used_in}
 use Rattle.qsg_report.specs.declared.shown.Shown.{Shown}
+use Rattle.qsg_report.specs.declared.shown.ShownDataSet.{ShownDataSet}
 use Rattle.qsg_report.specs.declared.shown.ShownFailure.{ShownFailure}
 use Rattle.qsg_report.specs.declared.shown.ShownMember.{ShownMember}
 use Rattle.qsg_report.specs.declared.shown.ShownQueue.{ShownQueue}
@@ -82,6 +84,39 @@ queue_shown s q = record { name = q.definition.name; depth = depth_of q.definiti
 abbrev pub queues_shown : State → List ShownQueue
 queues_shown s = map (queue_shown s) s.parts.objects.queues
 
+-- how many blocks of a data set are used by the map that stands for an epoch; where none does, none is
+abbrev pub used_blocks : ℕ → KeptSet → ℕ
+used_blocks epoch set = count_by (λ (is_used : Bool). is_used) (used_in epoch set)
+
+-- A data set of a member for a structure: how many of its blocks are used in that epoch, which is told of a member that is
+-- up, and how many it has.
+abbrev pub set_shown : Member → StructNo → Bool → ℕ → KeptSet → ShownDataSet
+set_shown m n up epoch set = record {
+  member = m;
+  structure = n;
+  used = if up then Some (used_blocks epoch set) else None;
+  blocks = set.contents.blocks;
+}
+
+-- the used blocks are those in the structure's present epoch
+abbrev pub dataset_shown : State → Member → StructNo → ShownDataSet
+dataset_shown s m n = set_shown m n (is_member_up m s) (structure_in n s.parts.structures).epoch (set_in m n s.parts.datasets)
+
+-- the one of a structure that is defined
+abbrev pub dataset_at : State → Member → StructNo → Option ShownDataSet
+dataset_at s m n = option_map (λ (c : Cfstruct). dataset_shown s m n) (structure_numbered n s.parts.objects)
+
+-- of a member that the group has, one for each structure
+abbrev pub datasets_by : State → Member → Option MemberDef → List ShownDataSet
+datasets_by s m None = []
+datasets_by s m (Some definition) = filter_map (dataset_at s m) every_structure
+
+abbrev pub datasets_at : State → Member → List ShownDataSet
+datasets_at s m = datasets_by s m (slice_get s.members (member_number m - 1))
+
+abbrev pub datasets_shown : State → List ShownDataSet
+datasets_shown s = flat_map (datasets_at s) every_member
+
 -- an incarnation that failed: whether it is resolved, and how many of its marks each member's system task took off
 abbrev pub failure_shown : Repository → Tally → ShownFailure
 failure_shown repo tally = record {
@@ -100,13 +135,13 @@ pub record AreFailures (repo : Repository) (tallies : List Tally) (shown : List 
   pub all : IsPermutation (map (failure_shown repo) tallies) shown
   pub order : IsNonDecreasingBy failure_rank shown
 
--- What is shown is the state: the group, its members, structures and queues, the incarnations that failed, and the actors
--- that wait, of which each is given with its cause. There are no data sets yet.
+-- What is shown is the state: the group, its members, structures, queues and data sets, the incarnations that failed, and
+-- the actors that wait, of which each is given with its cause.
 pub record IsShown (waiting : List ShownWait) (s : State) (shown : Shown) : Type 0 where
   pub group : shown.group ≡ s.group
   pub members : shown.members.items ≡ members_shown s
   pub structures : map seen shown.structures.items ≡ structures_seen s
   pub queues : shown.queues.items ≡ queues_shown s
-  pub datasets : shown.datasets.items ≡ []
+  pub datasets : shown.datasets.items ≡ datasets_shown s
   pub failed : AreFailures s.parts.repo s.tallies.rows shown.failed.items
   pub waits : shown.waits.items ≡ waiting

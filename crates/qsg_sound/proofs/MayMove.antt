@@ -56,7 +56,7 @@ use Rattle.qsg_sound.proofs.Starts.{next_within, start_left}
 
 -- where a run is in hand, a task has the latch, and the history has room for its unit
 pub may_crash : (a b : ℕ) (m : Member) (p : Owned) → IsSteady a b p → HasMember m p → MayCrash m p
-may_crash a b m p s has = record { member = has; room = λ some. by (latch_of (manager_in m p.managers).tasks) refl some }
+may_crash a b m p s has = record { member = has; datasets = subst (λ (n : ℕ). member_number m ≤ n) (sym s.shape.datasets.members) has.manager; room = λ some. by (latch_of (manager_in m p.managers).tasks) refl some }
   where
     no_hand : (hand : Option Hand) → hand ≡ None → IsSome hand → ⊥
     no_hand hand none some = false≢true (sym (ap is_some none) ∙ some)

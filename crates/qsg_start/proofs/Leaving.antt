@@ -11,6 +11,7 @@ use Rattle.qsg_manager.specs.declared.managers.Manager.{Manager}
 use Rattle.qsg_manager.specs.Storage.{manager_in, no_manager}
 use Rattle.qsg_logs.specs.Cuts.{restarted}
 use Rattle.qsg_logs.specs.Kept.{KeptLog, no_log, log_in}
+use Rattle.qsg_datasets.specs.Kept.{sets_of}
 use Rattle.qsg_parts.specs.Owned.{Owned}
 use Rattle.qsg_start.specs.declared.phases.NoMemory.{NoMemory}
 use Rattle.qsg_start.specs.declared.phases.StartTurn.{StartTurn}
@@ -76,3 +77,6 @@ log_left k w p result v q next differ = step_leaves (λ (x : Owned). log_in k x.
   read = λ log. other_log k w.member p.logs log differ;
   begun = λ page. other_log k w.member p.logs (restarted page.number (log_in w.member p.logs)) differ;
 }) next
+
+pub sets_left : (k : Member) (w : Work) (p : Owned) (result : Result StartTurn NoMemory) (v : Work) (q : Owned) → NextStart w p result v q → sets_of k q.datasets ≡ sets_of k p.datasets
+sets_left k w p result v q next = step_leaves (λ (x : Owned). sets_of k x.datasets) p w result v q (record { read = λ log. refl; begun = λ page. refl }) next

@@ -7,6 +7,7 @@ ghost use Rattle.qsg_logpage.specs.Log.{IsTied};
 ghost use Rattle.qsg_repo.specs.Tables.{low_of};
 ghost use Rattle.qsg_manager.specs.Storage.{manager_in};
 ghost use Rattle.qsg_logs.specs.Kept.{log_in};
+ghost use Rattle.qsg_datasets.specs.Kept.{sets_of};
 ghost use Rattle.qsg_parts.specs.Owned.{Owned};
 ghost use Rattle.qsg_walk.specs.Walks.{Walk};
 ghost use Rattle.qsg_start.specs.declared.phases.NoMemory.{NoMemory};
@@ -32,10 +33,11 @@ pub fn the_walk_ends_at_the_next_page()
         → (log_in m p.logs).writer.next ≤ 4290000000 → IsFollowed m first p walk → walk.left ≡ 0 → walk.next ≡ (log_in m p.logs).writer.next }
 {}
 
-/// A step leaves the storage of each other member as it was, and its log.
+/// A step leaves the storage of each other member as it was, its log and its data sets.
 pub fn a_start_leaves_other_members()
     ensures storage { (k : Member) (w : Work) (p : Owned) (result : Result StartTurn NoMemory) (v : Work) (q : Owned) → NextStart w p result v q → (member_number k ≡ member_number w.member → ⊥) → manager_in k q.managers ≡ manager_in k p.managers }
     ensures log { (k : Member) (w : Work) (p : Owned) (result : Result StartTurn NoMemory) (v : Work) (q : Owned) → NextStart w p result v q → (member_number k ≡ member_number w.member → ⊥) → log_in k q.logs ≡ log_in k p.logs }
+    ensures datasets { (k : Member) (w : Work) (p : Owned) (result : Result StartTurn NoMemory) (v : Work) (q : Owned) → NextStart w p result v q → (member_number k ≡ member_number w.member → ⊥) → sets_of k q.datasets ≡ sets_of k p.datasets }
 {}
 
 /// A step that doesn't bring the member up leaves all but what reading does to the device of its log, so that a START that

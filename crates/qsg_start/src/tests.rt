@@ -9,6 +9,7 @@ ghost use Rattle.qsg_parts.specs.Owned.{owned};
 ghost use Rattle.qsg_start.specs.Needs.{MayStart};
 
 use crate::{StartTurn, StartWork, only_the_last_step_starts};
+use qsg_datasets::DataSets;
 use qsg_disk::Disk;
 use qsg_disk_mem::MemDisk;
 use qsg_logrec::{LogRecord, Spellings, StructSet, cut, encode};
@@ -97,6 +98,7 @@ fn parts(alloc: Global, body: &[u8]) -> Option<Parts<MemDisk>>
         structures: Structures::from_vec(Vec::new(alloc)),
         managers: managers(alloc)?,
         logs: logs(alloc, body)?,
+        datasets: DataSets::from_vec(Vec::new(alloc)),
         repo: repo(alloc)?,
         objects: Objects::new(alloc),
         history: History::new(alloc),

@@ -62,6 +62,7 @@ beside_at p m x y ss same = record {
   managers = length-set p.managers (member_number m - 1) x;
   logs = length-set p.logs (member_number m - 1) y;
   structures = same;
+  datasets = refl;
   objects = refl;
   manager = λ k differ. manager_other m k x p.managers differ;
   log = λ k differ. log_other m k y p.logs differ;

@@ -167,7 +167,7 @@ hardened_steady a b room p t u ops claims first log s has holds ends written mor
     (λ w differ. by w differ (is_hardening (tasks_of x w).stage) refl (sets.others w differ) only) in
     let beside = beside_at p m x log p.structures refl in
     steady_moved a b a b p q m t x log s has (omega arith)
-    (record { managers = beside.managers; logs = beside.logs; structures = refl; objects = refl; manager = beside.manager; log = beside.log })
+    (record { managers = beside.managers; logs = beside.logs; structures = refl; datasets = refl; objects = refl; manager = beside.manager; log = beside.log })
     refl (manager_same m x p.managers has.manager) (log_same m log p.logs has.log) written.tells
     (one_tasked m t a (length p.structures) y old five (record {
       named = named_by y u (ap (λ (z : Task). z.unit) holds);
@@ -210,7 +210,7 @@ hardened_steady a b room p t u ops claims first log s has holds ends written mor
 
 pub roomy_steady : (a b room : ℕ) (p : Owned) → p.history.room ≤ room → IsSteady a b p → IsSteady a b (with_room room p)
 roomy_steady a b room p more s = record {
-  shape = record { logs = s.shape.logs; few = s.shape.few; five = s.shape.five; lows = s.shape.lows; structures = s.shape.structures };
+  shape = record { logs = s.shape.logs; few = s.shape.few; five = s.shape.five; lows = s.shape.lows; structures = s.shape.structures; datasets = record { members = s.shape.datasets.members; structures = s.shape.datasets.structures } };
   named = s.named;
   own = s.own;
   live = s.live;

@@ -231,6 +231,7 @@ founded p new = record {
     five = λ m there. let some = member_some m in all_within (λ (x : Manager). length x.tasks ≡ 5) p.managers (member_number m - 1) no_manager (all_weaker (λ (x : Manager). x ≡ new_manager) (λ (x : Manager). length x.tasks ≡ 5) p.managers (λ x is. ap (λ (z : Manager). length z.tasks) is) new.managers) (omega (arith, there, some));
     lows = ap (λ l. length l) new.lows;
     structures = new.defined;
+    datasets = new.datasets;
   };
   named = λ m t none. (member_idle m p.managers new.managers).tasks t;
   own = λ m t u is. absurd (none-some u (sym (ap (λ (z : Task). z.unit) ((member_idle m p.managers new.managers).tasks t)) ∙ is));

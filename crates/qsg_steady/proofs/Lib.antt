@@ -1,5 +1,6 @@
 pub mod Seen
 pub mod Places
+pub mod Sets
 pub mod Moving
 pub mod Sparing
 pub mod Acting

@@ -23,12 +23,14 @@ use Rattle.qsg_logs.specs.Kept.{KeptLog, log_in}
 use Rattle.qsg_parts.specs.Owned.{Owned, HasMember}
 use Rattle.qsg_steady.specs.Steady.{tasks_of, IsSeen, IsBehind, IsLive, is_up_life, IsListed, IsOver, IsMirrored, IsWithin, IsCounted, writing, AreTelling, IsLawful, IsSteady}
 use Rattle.qsg_steady.proofs.Seen.{has_ended}
+use Rattle.qsg_steady.proofs.Sets.{sets_stay}
 
 -- the other members and their logs are as they were
 pub record AreBeside (m : Member) (p q : Owned) : Type 0 where
   pub managers : length q.managers ≡ length p.managers
   pub logs : length q.logs ≡ length p.logs
   pub structures : length q.structures ≡ length p.structures
+  pub datasets : q.datasets ≡ p.datasets
   pub objects : q.objects ≡ p.objects
   pub manager : (k : Member) → (member_number k ≡ member_number m → ⊥) → manager_in k q.managers ≡ manager_in k p.managers
   pub log : (k : Member) → (member_number k ≡ member_number m → ⊥) → log_in k q.logs ≡ log_in k p.logs
@@ -170,6 +172,7 @@ steady_moved a b c d p q m t x y s has more beside repo here there same tasked h
         five = members_moved p q m (λ k z l. length z.tasks ≡ 5) beside (ap (λ (z : Manager). length z.tasks) here ∙ tasked.five) s.shape.five;
         lows = ap (λ (r : Repository). length r.lows) repo ∙ s.shape.lows;
         structures = subst (λ (n : ℕ). length q.objects.structures ≤ n) (sym beside.structures) (subst (λ o. length o.structures ≤ length p.structures) (sym beside.objects) s.shape.structures);
+        datasets = sets_stay p q beside.datasets beside.managers beside.structures s.shape.datasets;
       };
       named = λ k w. (tasks k w).named;
       own = λ k w. (tasks k w).own;

@@ -345,7 +345,7 @@ lowered_steady a b page p m s has page_is none =
     let here = low_here m low p.repo s.shape.lows in
     let written = low_written a b p m page (first_needed (manager_in m p.managers).tasks) s has refl page_is in
     record {
-      shape = record { logs = s.shape.logs; few = s.shape.few; five = s.shape.five; lows = length-set p.repo.lows (member_number m - 1) low ∙ s.shape.lows; structures = s.shape.structures };
+      shape = record { logs = s.shape.logs; few = s.shape.few; five = s.shape.five; lows = length-set p.repo.lows (member_number m - 1) low ∙ s.shape.lows; structures = s.shape.structures; datasets = record { members = s.shape.datasets.members; structures = s.shape.datasets.structures } };
       named = s.named;
       own = s.own;
       live = s.live;

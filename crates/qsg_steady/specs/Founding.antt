@@ -12,7 +12,9 @@ use Rattle.qsg_repo.specs.Tables.{page_at, no_holds}
 use Rattle.qsg_lists.specs.Structures.{ListStructure}
 use Rattle.qsg_logs.specs.Kept.{KeptLog, no_fillings}
 use Rattle.qsg_logs.specs.Writers.{new_writer}
-use Rattle.qsg_parts.specs.Owned.{Owned, HasStructures}
+use Rattle.qsg_dataset.specs.Contents.{extent_of}
+use Rattle.qsg_datasets.specs.Kept.{KeptSet, no_hands}
+use Rattle.qsg_parts.specs.Owned.{Owned, HasStructures, HasDataSets}
 use Rattle.qsg_steady.specs.Steady.{IsListed}
 
 -- a member in its first incarnation, whose tasks hold nothing
@@ -33,14 +35,22 @@ pub record IsNewStructure (structure : ListStructure) : Type 0 where
   pub last : structure.last ≡ 0
   pub entries : structure.entries ≡ []
 
--- Structures and logs are new, members are up for the first time, as the repository has them, no incarnation failed,
+-- a data set of which its member keeps nothing, over zeros where its device tells its bytes
+pub record IsNewSet (set : KeptSet) : Type 0 where
+  pub map : set.map ≡ None
+  pub hands : set.hands ≡ no_hands
+  pub zeros : set.contents.tells ≡ true → set.contents.bytes ≡ replicate (extent_of set.contents) zero_byte
+
+-- Structures, logs and data sets are new, members are up for the first time, as the repository has them, no incarnation failed,
 -- and it has no note and no hold.
 pub record IsNew (p : Owned) : Type 0 where
   pub members : length p.logs ≡ length p.managers
   pub few : length p.managers ≤ 8
   pub defined : HasStructures p
+  pub datasets : HasDataSets p
   pub managers : AllByRecursion (λ (x : Manager). x ≡ new_manager) p.managers
   pub logs : AllByRecursion IsNewLog p.logs
+  pub sets : AllByRecursion (AllByRecursion IsNewSet) p.datasets
   pub structures : AllByRecursion IsNewStructure p.structures
   pub listed : (m : Member) → member_number m ≤ length p.managers → IsListed m new_manager p.repo
   pub unfailed : (m : Member) (i : ℕ) → is_unresolved m (record { number = i }) p.repo ≡ false

@@ -30,7 +30,7 @@ use Rattle.qsg_manager.specs.Latches.{latch_of, needed_by}
 use Rattle.qsg_manager.specs.Storage.{task_in, manager_in, task_at}
 use Rattle.qsg_logs.specs.Held.{AreHeld}
 use Rattle.qsg_logs.specs.Kept.{KeptLog, log_in}
-use Rattle.qsg_parts.specs.Owned.{Owned, HasStructures}
+use Rattle.qsg_parts.specs.Owned.{Owned, HasStructures, HasDataSets}
 
 -- ---- the log of a member
 
@@ -99,13 +99,15 @@ pub record IsOver (m : Member) (i : Incarnation) (managers : List Manager) : Typ
 
 -- ---- the group
 
--- each member has a log, five tasks and a low page, and each structure that is defined is there
+-- each member has a log, five tasks, a low page and a data set for each structure, and each structure that is defined is
+-- there
 pub record IsShaped (p : Owned) : Type 0 where
   pub logs : length p.logs ≡ length p.managers
   pub few : length p.managers ≤ 8
   pub five : (m : Member) → member_number m ≤ length p.managers → length (manager_in m p.managers).tasks ≡ 5
   pub lows : length p.repo.lows ≡ 8
   pub structures : HasStructures p
+  pub datasets : HasDataSets p
 
 -- what the machine has besides structures and members' storage is what happened, and what the repository has
 pub record IsMirrored (rest : Rest) (p : Owned) : Type 0 where

@@ -1,4 +1,5 @@
 pub mod NewLogs
+pub mod NewSets
 pub mod NewRepo
 pub mod NewStructures
 pub mod NewCourses
@@ -6,4 +7,4 @@ pub mod Making
 pub mod Moving
 pub mod Stepping
 pub mod Flat
-pub mod GivenBack
+pub mod Handing

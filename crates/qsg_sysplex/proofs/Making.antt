@@ -1,6 +1,6 @@
 -- the group of a plan that can be worked is new
-use Rattle.std.proofs.Common.{◌≡◌, ◌≤◌, ◌<◌, ◌^◌, ℕ, true, List, [], length, replicate, take, refl, ap, sym, subst, ◌∙◌, arith}
-use Rattle.std.specs.Prelude.{◌+◌, zero, suc}
+use Rattle.std.proofs.Common.{◌≡◌, ◌≤◌, ◌<◌, ◌^◌, ℕ, true, List, length, replicate, take, refl, ap, sym, subst, ◌∙◌, arith}
+use Rattle.std.specs.Prelude.{zero, suc}
 use Rattle.std.proofs.lemmas.List.{length-replicate}
 use Rattle.std.specs.List.{AllByRecursion}
 use Rattle.qsg_objects.specs.declared.plans.Plan.{Plan}
@@ -10,7 +10,7 @@ use Rattle.qsg_repo.specs.declared.lives.Life.{Life}
 use Rattle.qsg_repo.specs.Lives.{is_up}
 use Rattle.qsg_repo.specs.Tables.{Repository}
 use Rattle.qsg_manager.specs.declared.managers.Manager.{Manager}
-use Rattle.qsg_agenda.specs.Courses.{Course, begun}
+use Rattle.qsg_agenda.specs.Courses.{Course}
 use Rattle.qsg_steady.specs.Steady.{IsListed}
 use Rattle.qsg_steady.specs.Founding.{new_manager, IsNew, IsNewStructure}
 use Rattle.qsg_peer.specs.Needs.{AreMembers}
@@ -19,9 +19,11 @@ use Rattle.qsg_step.specs.States.{State, IsCourseRight}
 use Rattle.qsg_fit.specs.Outcomes.{IsPlaced}
 use Rattle.qsg_sound.specs.Founding.{IsUnanswered, IsNewState}
 use Rattle.qsg_sound.specs.Sound.{directives_in, starts_left, IsCourseWithin, AreLogsKept, AreStructuresKept}
+use Rattle.qsg_devices.specs.Shapes.{shapes_of}
 use Rattle.qsg_sysplex.specs.Plans.{IsWorkable}
 use Rattle.qsg_sysplex.specs.Starting.{all_members, starts_of, incarnations_of, recovering, new_repo, IsMade}
 use Rattle.qsg_sysplex.proofs.NewLogs as logs
+use Rattle.qsg_sysplex.proofs.NewSets as sets
 use Rattle.qsg_sysplex.proofs.NewStructures as structures
 use Rattle.qsg_sysplex.proofs.NewCourses as courses
 use Rattle.qsg_sysplex.proofs.NewRepo.{IsUnfailed, all_unfailed, new_listed, new_lives, new_starts, all_ups, all_members_below}
@@ -42,10 +44,15 @@ new_parts plan s can few made =
     let repo : IsUnfailed s.parts.repo = subst IsUnfailed (sym made.repo) (unfailed plan) in
     record {
       members = each ∙ sym managers;
+      datasets = record {
+        members = made.datasets.count ∙ sym managers;
+        structures = λ m there. sets.as_many plan s.parts.datasets can made.datasets m (omega (arith, there, managers, made.datasets.count)) ∙ sym sized;
+      };
       few = omega (arith, managers, can.few);
       defined = omega (arith, defined, sized, can.sizes);
       managers = subst (AllByRecursion (λ (x : Manager). x ≡ new_manager)) (sym made.managers) (all_same (length plan.members));
       logs = logs.all_new plan.members s.parts.logs can.logs made.logs;
+      sets = sets.all_new (shapes_of plan.sizes plan.objects) s.parts.datasets made.datasets.each;
       structures = subst (AllByRecursion IsNewStructure) (sym made.structures) (structures.all_new plan.sizes);
       listed = λ m there. subst (IsListed m new_manager) (sym made.repo) (new_listed m (length plan.members) _ _ _ _ (omega (arith, managers, there)));
       unfailed = λ m i. repo.unfailed m (record { number = i });

@@ -1,6 +1,6 @@
 -- an actor that the group doesn't have makes no step, so that it needs nothing
-use Rattle.std.proofs.Common.{◌≡◌, ◌≤◌, ◌<◌, ℕ, zero, suc, Bool, true, false, List, [], ◌∷◌, length, Some, None, refl, ap, sym, subst, ◌∙◌, arith}
-use Rattle.std.specs.Prelude.{◌&&◌, ◌||◌, ◌-◌, nat_lt, if◌then◌else◌, is_some, slice_index_or}
+use Rattle.std.proofs.Common.{◌≡◌, ◌≤◌, ◌<◌, ℕ, zero, suc, Bool, true, false, List, [], ◌∷◌, length, Some, None, refl, ap, sym, subst, arith}
+use Rattle.std.specs.Prelude.{◌&&◌, ◌-◌, nat_lt, if◌then◌else◌, slice_index_or}
 use Rattle.std.proofs.lemmas.Bool.{false≢true}
 use Rattle.std.proofs.lemmas.Bool.Decides.{nat_tests}
 use Rattle.qsg_num.specs.declared.seats.Member.{Member}
@@ -14,7 +14,7 @@ use Rattle.qsg_requests.specs.declared.replies.Cause.TheVariants.{Down}
 use Rattle.qsg_manager.specs.declared.managers.Manager.{Manager}
 use Rattle.qsg_manager.specs.Storage.{no_manager}
 use Rattle.qsg_step.specs.Asking.{asked}
-use Rattle.qsg_step.specs.Needs.{MayAsk, MayMove}
+use Rattle.qsg_step.specs.Needs.{MayMove}
 use Rattle.qsg_step.specs.States.{State, IsWithin, is_member_up}
 use Rattle.qsg_step.specs.Waiting.{cause_of, cause_asked}
 

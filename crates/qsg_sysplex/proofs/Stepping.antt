@@ -1,5 +1,5 @@
 -- a step keeps what the group keeps, whether it was made or not
-use Rattle.std.proofs.Common.{◌≡◌, Option, Some, None, Result, Ok, Err}
+use Rattle.std.proofs.Common.{Option, Some, None, Result, Ok, Err}
 use Rattle.std.specs.Prelude.{IfOk, OnErr, IfSome}
 use Rattle.qsg_num.specs.declared.ids.Actor.{Actor}
 use Rattle.qsg_objects.specs.declared.directives.Directive.{Directive}

@@ -1,5 +1,4 @@
 pub mod Plans
-pub mod Logging
 pub mod Starting
 pub mod Actors
 pub mod Kept

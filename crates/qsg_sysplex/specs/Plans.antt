@@ -4,15 +4,12 @@ use Rattle.std.specs.List.{AllByRecursion}
 use Rattle.qsg_num.specs.declared.ids.Actor.{Actor}
 use Rattle.qsg_num.specs.Seats.{structure_number}
 use Rattle.qsg_objects.specs.declared.directives.Directive.{Directive}
-use Rattle.qsg_objects.specs.declared.plans.MemberDef.{MemberDef}
 use Rattle.qsg_objects.specs.declared.plans.Plan.{Plan}
 use Rattle.qsg_objects.specs.declared.registry.Queue.{Queue}
 use Rattle.qsg_directives.specs.Asking.{IsRight}
 use Rattle.qsg_sound.specs.Sound.{IsDirectiveWithin}
-
--- a log has some pages, and at most 8,192
-abbrev pub IsLogSized : MemberDef → Type 0
-IsLogSized m = (0 < m.log_pages) × (m.log_pages ≤ 8192)
+use Rattle.qsg_devices.specs.Logs.{IsLogSized}
+use Rattle.qsg_devices.specs.Shapes.{shapes_of, IsSetSized}
 
 -- a queue is on one of so many structures
 abbrev pub IsOnOneOf : ℕ → Queue → Type 0
@@ -36,6 +33,7 @@ pub record IsWorkable (plan : Plan) : Type 0 where
   pub logs : AllByRecursion IsLogSized plan.members
   pub four : length plan.sizes ≤ 4
   pub sizes : length plan.sizes ≡ length plan.objects.structures
+  pub sets : AllByRecursion IsSetSized (shapes_of plan.sizes plan.objects)
   pub queues : AllByRecursion (IsOnOneOf (length plan.objects.structures)) plan.objects.queues
   pub right : AllByRecursion AreRight plan.works
   pub within : AllByRecursion (AreWithin (length plan.members)) plan.works

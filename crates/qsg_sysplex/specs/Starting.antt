@@ -21,7 +21,9 @@ use Rattle.qsg_steady.specs.Founding.{new_manager}
 use Rattle.qsg_peers.specs.Peers.{new_peer}
 use Rattle.qsg_step.specs.States.{State}
 use Rattle.qsg_sound.specs.Sound.{is_start}
-use Rattle.qsg_sysplex.specs.Logging.{AreNewLogs}
+use Rattle.qsg_devices.specs.Shapes.{shapes_of}
+use Rattle.qsg_devices.specs.Logs.{AreNewLogs}
+use Rattle.qsg_devices.specs.DataSets.{AreNewRows}
 
 -- an active and empty structure
 abbrev pub new_structure : StructNo → Size → ListStructure
@@ -69,11 +71,13 @@ abbrev pub new_repo : ℕ → Registry → ℕ → Repository
 new_repo members objects incarnations = all_started (take members all_members) (new_repository members (length objects.structures) (recovering objects) incarnations)
 
 -- The group of a plan: its structures are active and empty, its members are up in their first incarnation, each with a
--- new log, and nothing was done yet of what its actors are to do. There is room for a tally of each incarnation.
+-- new log and a new data set for each structure, and nothing was done yet of what its actors are to do. There is room
+-- for a tally of each incarnation.
 pub record IsMade (plan : Plan) (s : State) : Type 0 where
   pub structures : s.parts.structures ≡ new_structures plan.sizes
   pub managers : s.parts.managers ≡ replicate (length plan.members) new_manager
   pub logs : AreNewLogs plan.members s.parts.logs
+  pub datasets : AreNewRows (length plan.members) (shapes_of plan.sizes plan.objects) s.parts.datasets
   pub repo : s.parts.repo ≡ new_repo (length plan.members) plan.objects (incarnations_of (length plan.members) plan.works)
   pub objects : s.parts.objects ≡ plan.objects
   pub history : s.parts.history.items ≡ []

@@ -1,14 +1,14 @@
 //! The group, which keeps its laws.
 
-ghost use Rattle.std.specs.Prelude.{◌≡◌, ◌<◌, ◌≤◌, true, length, IfOk, OnErr, IsOk, IsErrOf, IsSome, IsSomeAnd};
+ghost use Rattle.std.specs.Prelude.{◌≡◌, ◌<◌, ◌≤◌, true, length, IfOk, OnErr, IsOk, IsErrOf, IsSome};
 
-use crate::devices::{MakeFault, give_back, new_logs};
 use crate::laws::{
     a_kept_group_may_move, a_new_group_is_kept, a_step_keeps_a_group,
     a_step_that_wants_memory_keeps_a_group,
 };
 use crate::starting::{incarnations_of, new_managers, new_repo, new_structures};
 use qsg_agenda::Agenda;
+use qsg_devices::{Devices, MakeFault, give_back, new_devices, shapes_of};
 use qsg_disk::{Disk, Rig};
 use qsg_lists::{Entry, State};
 use qsg_model::History;
@@ -48,24 +48,24 @@ impl<D: Disk + Drop> Sysplex<D> {
     ghost use Rattle.qsg_num.specs.declared.seats.Member.{Member};
     ghost use Rattle.qsg_num.specs.Faults.{Rose};
     ghost use Rattle.qsg_disk.specs.declared.kinds.Kind.{Kind};
-    ghost use Rattle.qsg_disk.specs.declared.kinds.Kind.TheVariants.{Log};
-    ghost use Rattle.qsg_num.specs.Seats.{member_number};
-    ghost use Rattle.qsg_logs.specs.Kept.{log_in};
+    ghost use Rattle.qsg_disk.specs.Places.{kind_number};
     ghost use Rattle.qsg_parts.specs.Owned.{owned};
     ghost use Rattle.qsg_lists.specs.Entries.{used_of};
     ghost use Rattle.qsg_manager.specs.Facilities.{structure_in};
     ghost use Rattle.qsg_step.specs.States.{is_member_up};
     ghost use Rattle.qsg_step.specs.Steps.{IsStep, IsUnmade};
-    ghost use Rattle.qsg_sysplex.specs.declared.devices.MakeFault.TheVariants as fault;
+    ghost use Rattle.qsg_devices.specs.declared.making.MakeFault.TheVariants as fault;
     ghost use Rattle.qsg_working.specs.Ends.{wait_of, is_finished, is_stuck};
     ghost use Rattle.qsg_working.specs.Needs.{needs_no_memory};
     ghost use Rattle.qsg_sysplex.specs.Kept.{IsKept};
+    ghost use Rattle.qsg_devices.specs.Places.{IsDeviceOf, IsEarlier, AreGivenBack, device_bytes};
     ghost use Rattle.qsg_sysplex.specs.Plans.{IsWorkable};
     ghost use Rattle.qsg_sysplex.specs.Starting.{IsMade};
 
-    /// The group of a plan: all its members are up in their first incarnation, on new devices of a rig, and its
-    /// structures are active and empty. The plan's schedule isn't looked at. Where it fails, all devices that were made
-    /// are given back.
+    /// The group of a plan: all its members are up in their first incarnation, each with its log and its data sets on new
+    /// devices of a rig, and its structures are active and empty. Devices are made in order of the members, of each its
+    /// log first, and then its data sets in order of the structures. The plan's schedule isn't looked at. Where it fails,
+    /// all devices that were made are given back.
     pub fn make<R: Rig<D = D>>(
         alloc: Global,
         plan: Plan,
@@ -73,7 +73,8 @@ impl<D: Disk + Drop> Sysplex<D> {
     ) -> Result<Sysplex<D>, MakeFault>
         requires plan { IsWorkable plan }
         ensures made { IfOk result (λ s. IsMade plan s) }
-        ensures back { R.tells rig.old ≡ true → (m : Member) (k : Kind) → IsErrOf result (fault.Rig m k) → (n : Member) → member_number n < member_number m → IsSome (R.given rig.new n Log) }
+        ensures place { (m : Member) (k : Kind) → IsErrOf result (fault.Rig m k) → IsDeviceOf (length plan.members) (length plan.sizes) m k }
+        ensures back { R.tells rig.old ≡ true → (m : Member) (k : Kind) → IsErrOf result (fault.Rig m k) → (n : Member) (l : Kind) → kind_number l ≤ length plan.sizes → IsEarlier n l m k → IsSome (R.given rig.new n l) }
         ensures cause { (m : Member) (k : Kind) → IsErrOf result (fault.Rig m k) → Rose (R.faults rig.old) (R.faults rig.new) }
         ensures later { R.faults rig.old ≤ R.faults rig.new }
         ensures told { R.tells rig.new ≡ R.tells rig.old }
@@ -94,7 +95,9 @@ impl<D: Disk + Drop> Sysplex<D> {
         let agenda = Agenda::new(alloc, works)?;
         let hands = Works::new(alloc)?;
         let peers = Peers::new(alloc)?;
-        let logs = new_logs(alloc, rig, members.as_slice())?;
+        let shapes = shapes_of(alloc, sizes.as_slice(), &objects)?;
+        let devices = new_devices(alloc, rig, members.as_slice(), shapes.as_slice())?;
+        let Devices { logs, datasets } = devices;
         a_new_group_is_kept();
         logs_are_kept(&logs);
         structures_are_kept(&structures);
@@ -104,6 +107,7 @@ impl<D: Disk + Drop> Sysplex<D> {
                     structures,
                     managers,
                     logs,
+                    datasets,
                     repo,
                     objects,
                     history: History::new(alloc),
@@ -255,15 +259,15 @@ impl<D: Disk + Drop> Sysplex<D> {
         &self.working.sizes
     }
 
-    /// Gives the device of each member's log back to a rig. Takes no memory.
+    /// Gives the device of each log and data set back to a rig. Takes no memory.
     pub fn close<R: Rig<D = D>>(self, rig: &mut R)
-        ensures given { R.tells rig.old ≡ true → (m : Member) → member_number m ≤ length self.parts.logs → IsSomeAnd (R.given rig.new m Log) (λ d. D.bytes d ≡ (log_in m self.parts.logs).bytes) }
+        ensures given { R.tells rig.old ≡ true → AreGivenBack D.bytes (device_bytes self.parts.logs self.parts.datasets) (R.given rig.old) (R.given rig.new) }
         ensures later { R.faults rig.old ≤ R.faults rig.new }
         ensures told { R.tells rig.new ≡ R.tells rig.old }
     {
         let Sysplex { working } = self;
         let Working { parts, .. } = working;
-        give_back(rig, parts.logs);
+        give_back(rig, parts.logs, parts.datasets);
     }
 }
 

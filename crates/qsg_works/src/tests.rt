@@ -8,6 +8,7 @@ ghost use Rattle.qsg_logs.specs.Kept.{log_in};
 ghost use Rattle.qsg_logs.specs.Writers.{new_writer};
 
 use crate::{Work, Works};
+use qsg_datasets::DataSets;
 use qsg_disk_mem::MemDisk;
 use qsg_lists::Selector;
 use qsg_logs::{Logs, MemberLog};
@@ -60,6 +61,7 @@ fn parts(alloc: Global) -> Option<Parts<MemDisk>>
         structures: Structures::from_vec(Vec::new(alloc)),
         managers: managers(alloc)?,
         logs: logs(alloc)?,
+        datasets: DataSets::from_vec(Vec::new(alloc)),
         repo: Repo::new(alloc, 1, 1, [false; 4], 1).ok()?,
         objects: Objects::new(alloc),
         history: History::new(alloc),

@@ -3,6 +3,7 @@ use Rattle.qsg_put.proofs.laws.a_put_leaves_the_rest.Goals as goal
 
 pub returns : goal.returns
 returns c = record {
+  datasets = λ work p. (rest_left work p).datasets;
   repo = λ work p. (rest_left work p).repo;
   objects = λ work p. (rest_left work p).objects;
   history = λ work p. (rest_left work p).history;

@@ -1,11 +1,11 @@
 use Rattle.std.proofs.Common.{◌≡◌, ℕ, List, Option, Some, None, ap, subst, sym, refl, ◌∙◌}
 use Rattle.qsg_num.specs.declared.ids.Actor.{Actor}
-use Rattle.qsg_disk.specs.declared.kinds.Kind.TheVariants.{Log}
+use Rattle.qsg_devices.specs.Places.{device_bytes}
 use Rattle.qsg_schedule.specs.Course.{Course}
 use Rattle.qsg_sysplex.specs.Actors.{actors_of}
 use Rattle.qsg_drive.specs.Runs.{IsRun, IsNewCourse}
 use Rattle.qsg_run.specs.Replays.{IsReported, course_for}
-use Rattle.qsg_run.proofs.Back.{told}
+use Rattle.qsg_run.proofs.Back.{told_at}
 use Rattle.qsg_run.proofs.replays.replay_plan.Goals as goal
 
 new_course : (seed : Option ℕ) (turns : List (Actor × ℕ)) (actors : List Actor) → IsNewCourse actors (course_for seed turns actors)
@@ -36,6 +36,6 @@ returns-clause-due g c =
       made = c.in-Ok.ensures.made;
       run = subst (λ (actors : List Actor). IsRun actors (course_for c.args.seed plan.schedule (actors_of plan)) c.in-Ok.sysplex path after) stepped
           (subst (λ (course : Course). IsRun c.as_slice-2.result.now course c.in-Ok.sysplex path after) picks c.in_ok-due.ensures.ran.1);
-      devices = λ tells m within. told g.R.D.Disk.bytes _ (g.R.Rig.given c.close.new.rig m Log) (c.close.ensures.given (c.in-Ok.ensures.told ∙ tells) m within);
+      devices = λ tells m k. told_at g.R.D.Disk.bytes (device_bytes after.parts.logs after.parts.datasets m k) _ (g.R.Rig.given c.close.new.rig m k) (c.close.ensures.given (c.in-Ok.ensures.told ∙ tells) m k);
       reported = subst (λ (actors : List Actor). IsReported actors after c.in_ok-due.field-0.status c.in_ok-due.field-0.text) stepped c.in_ok-due.ensures.report;
     }

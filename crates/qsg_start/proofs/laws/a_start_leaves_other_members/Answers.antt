@@ -1,4 +1,4 @@
-use Rattle.qsg_start.proofs.Leaving.{storage_left, log_left}
+use Rattle.qsg_start.proofs.Leaving.{storage_left, log_left, sets_left}
 use Rattle.qsg_start.proofs.laws.a_start_leaves_other_members.Goals as goal
 
 pub returns-clause-storage : goal.returns-clause-storage
@@ -6,3 +6,6 @@ returns-clause-storage c = storage_left
 
 pub returns-clause-log : goal.returns-clause-log
 returns-clause-log c = log_left
+
+pub returns-clause-datasets : goal.returns-clause-datasets
+returns-clause-datasets c = λ k w p result v q next differ. sets_left k w p result v q next

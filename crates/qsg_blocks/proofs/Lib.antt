@@ -1,0 +1,16 @@
+pub mod Counting
+pub mod Fitting
+pub mod Standing
+pub mod Counted
+pub mod Kept
+pub mod Bytes
+pub mod Bodies
+pub mod Down
+pub mod Headers
+pub mod Whole
+pub mod Reading
+pub mod Writing
+pub mod Written
+pub mod Starting
+pub mod Loading
+pub mod Stopping

@@ -1,0 +1,4 @@
+pub mod Returned
+pub mod Made
+pub mod Stopped
+pub mod Paired

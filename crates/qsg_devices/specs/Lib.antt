@@ -1,0 +1,4 @@
+pub mod Shapes
+pub mod Logs
+pub mod DataSets
+pub mod Places
