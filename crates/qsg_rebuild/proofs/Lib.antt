@@ -1,0 +1,12 @@
+pub mod Places
+pub mod Leaving
+pub mod Needing
+pub mod Grounding
+pub mod Gating
+pub mod Staying
+pub mod Keeping
+pub mod Listing
+pub mod Pacing
+pub mod Making
+pub mod Going
+pub mod Acting

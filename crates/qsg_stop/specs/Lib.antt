@@ -1,0 +1,9 @@
+pub mod Calls
+pub mod Needs
+pub mod Steps
+pub mod Leaving
+pub mod Saving
+pub mod Pace
+pub mod Machine
+pub mod Ground
+pub mod Stopping
