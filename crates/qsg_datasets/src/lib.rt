@@ -18,5 +18,5 @@ pub use laws::{
     given_blocks_are_free, nothing_is_kept_through_a_cut, one_data_set_changes, one_hand_changes,
     taken_blocks_are_used,
 };
-pub use member_data_set::{Found, Hand, KeptMap, MemberDataSet};
+pub use member_data_set::{Found, Hand, Hands, KeptMap, MemberDataSet};
 pub use table::{DataSets, MemberDataSets};

@@ -78,6 +78,39 @@ fn no_hand(alloc: Global) -> Hand
     }
 }
 
+/// The hands of all tasks of a member, for a data set of which none has taken blocks: what is made before the device of
+/// the data set, so that no device is lost for want of memory.
+#[derive(Debug, Drop)]
+pub struct Hands {
+    items: Vec<Hand>,
+}
+
+impl Model for Hands {
+    ghost use Rattle.std.specs.Prelude.{◌≡◌, List, length};
+    ghost use Rattle.qsg_datasets.specs.declared.member_data_set.Hand.{Hand};
+
+    ghost Value = { List Hand };
+
+    ghost view = { λ h. h.items.items };
+
+    ghost invariant = { λ h. length h.items.items ≡ 5 };
+}
+
+impl Hands {
+    /// Hands of tasks that have taken no blocks.
+    pub fn new(alloc: Global) -> Result<Hands, AllocError>
+        ensures { IfOk result (λ h. h ≡ no_hands) }
+    {
+        let mut items = Vec::with_capacity(alloc, ALL_TASKS)?;
+        items.push(no_hand(alloc))?;
+        items.push(no_hand(alloc))?;
+        items.push(no_hand(alloc))?;
+        items.push(no_hand(alloc))?;
+        items.push(no_hand(alloc))?;
+        Ok(Hands { items })
+    }
+}
+
 /// No task has taken blocks any more.
 fn empty_all(alloc: Global, hands: &mut [Hand])
     ensures { hands.new ≡ replicate (length hands.old) no_hand }
@@ -152,23 +185,26 @@ fn claim_all(used: &mut Map, blocks: &[Block])
 }
 
 impl<D: Disk> MemberDataSet<D> {
-    /// A data set of which its member keeps no map, and of which no task has taken blocks.
+    /// A data set of which its member keeps no map, and of which no task has taken blocks. Where there is no memory for
+    /// it, the data set is gone.
     pub fn new(alloc: Global, data_set: DataSet<D>) -> Result<Self, AllocError>
     where
         D: Drop,
         ensures { IfOk result (λ s. s ≡ record { contents = data_set; map = None; hands = no_hands }) }
     {
-        let mut hands = Vec::with_capacity(alloc, ALL_TASKS)?;
-        hands.push(no_hand(alloc))?;
-        hands.push(no_hand(alloc))?;
-        hands.push(no_hand(alloc))?;
-        hands.push(no_hand(alloc))?;
-        hands.push(no_hand(alloc))?;
-        Ok(MemberDataSet {
+        let hands = Hands::new(alloc)?;
+        Ok(MemberDataSet::with_hands(data_set, hands))
+    }
+
+    /// A data set of which its member keeps no map, and of which tasks have these hands. Takes no memory.
+    pub fn with_hands(data_set: DataSet<D>, hands: Hands) -> Self
+        ensures { result ≡ record { contents = data_set; map = None; hands = hands } }
+    {
+        MemberDataSet {
             data: data_set,
             map: None,
-            hands,
-        })
+            hands: hands.items,
+        }
     }
 
     /// Its data set. Takes no memory.

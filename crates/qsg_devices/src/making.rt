@@ -1,6 +1,6 @@
 //! The devices of the members, made by a rig.
 
-ghost use Rattle.std.specs.Prelude.{◌≡◌, ◌<◌, ◌≤◌, ◌+◌, ◌*◌, true, List, [], length, IfOk, OnOk, OnErr, IsErrOf, IsSome};
+ghost use Rattle.std.specs.Prelude.{◌≡◌, ◌<◌, ◌≤◌, ◌+◌, ◌*◌, true, List, [], length, replicate, IfOk, OnOk, OnErr, IsErrOf, IsSome};
 ghost use Rattle.std.specs.List.{AllByRecursion};
 ghost use Rattle.qsg_num.specs.Faults.{Rose};
 ghost use Rattle.qsg_num.specs.declared.seats.Member.{Member};
@@ -9,6 +9,7 @@ ghost use Rattle.qsg_num.specs.Seats.{member_number, structure_number};
 ghost use Rattle.qsg_disk.specs.declared.kinds.Kind.{Kind};
 ghost use Rattle.qsg_disk.specs.declared.kinds.Kind.TheVariants as kind;
 ghost use Rattle.qsg_disk.specs.Places.{kind_number};
+ghost use Rattle.qsg_disk.specs.Byte.{zero_byte};
 ghost use Rattle.qsg_devices.specs.declared.making.MakeFault.TheVariants as fault;
 ghost use Rattle.qsg_devices.specs.DataSets.{IsNewSet, AreNewSets, AreNewRows, IsOneMoreSet, IsOneMoreRow};
 ghost use Rattle.qsg_devices.specs.Places.{IsDeviceOf, IsEarlier, IsStopped};
@@ -18,7 +19,7 @@ ghost use Rattle.qsg_devices.specs.Shapes.{IsSetSized};
 use crate::returning::{give_back, give_back_row};
 use crate::shapes::Shape;
 use qsg_dataset::DataSet;
-use qsg_datasets::{DataSets, MemberDataSet, MemberDataSets};
+use qsg_datasets::{DataSets, Hands, MemberDataSet, MemberDataSets};
 use qsg_disk::{Disk, Kind, Rig, RigError};
 use qsg_logs::{Logs, MemberLog};
 use qsg_num::{DATA_SET_HEADER, Member, PAGE_BYTES, StructNo};
@@ -56,6 +57,28 @@ struct Made<D: Disk> {
     rows: Vec<MemberDataSets<D>>,
 }
 
+/// A new device of so many bytes.
+fn new_device<D: Disk + Drop, R: Rig<D = D>>(
+    alloc: Global,
+    rig: &mut R,
+    member: Member,
+    kind: Kind,
+    size: u32,
+) -> Result<D, MakeFault>
+    ensures size { IfOk result (λ d. D.extent d ≡ size) }
+    ensures zeros { IfOk result (λ d. D.tells d ≡ true → D.bytes d ≡ replicate size zero_byte) }
+    ensures place { (m : Member) (k : Kind) → IsErrOf result (fault.Rig m k) → (m ≡ member) × (k ≡ kind) }
+    ensures cause { (m : Member) (k : Kind) → IsErrOf result (fault.Rig m k) → Rose (R.faults rig.old) (R.faults rig.new) }
+    ensures later { R.faults rig.old ≤ R.faults rig.new }
+    ensures told { R.tells rig.new ≡ R.tells rig.old }
+{
+    match rig.device(alloc, member, kind, size) {
+        Ok(device) => Ok(device),
+        Err(RigError::NoMemory) => Err(MakeFault::NoMemory),
+        Err(RigError::Failed) => Err(MakeFault::Rig(member, kind)),
+    }
+}
+
 /// The log of a member, of so many pages, on a new device.
 fn new_log<D: Disk + Drop, R: Rig<D = D>>(
     alloc: Global,
@@ -71,11 +94,8 @@ fn new_log<D: Disk + Drop, R: Rig<D = D>>(
     ensures later { R.faults rig.old ≤ R.faults rig.new }
     ensures told { R.tells rig.new ≡ R.tells rig.old }
 {
-    match rig.device(alloc, member, Kind::Log, pages * PAGE_BYTES) {
-        Ok(device) => Ok(MemberLog::new(device, pages)),
-        Err(RigError::NoMemory) => Err(MakeFault::NoMemory),
-        Err(RigError::Failed) => Err(MakeFault::Rig(member, Kind::Log)),
-    }
+    let device = new_device(alloc, rig, member, Kind::Log, pages * PAGE_BYTES)?;
+    Ok(MemberLog::new(device, pages))
 }
 
 /// Adds the log of the next member.
@@ -122,15 +142,11 @@ fn new_set<D: Disk + Drop, R: Rig<D = D>>(
     ensures later { R.faults rig.old ≤ R.faults rig.new }
     ensures told { R.tells rig.new ≡ R.tells rig.old }
 {
+    let hands = Hands::new(alloc)?;
     let size = DATA_SET_HEADER + shape.blocks * shape.block_size;
-    match rig.device(alloc, member, Kind::DataSet(structure), size) {
-        Ok(device) => {
-            let data_set = DataSet::new(device, shape.block_size);
-            Ok(MemberDataSet::new(alloc, data_set)?)
-        }
-        Err(RigError::NoMemory) => Err(MakeFault::NoMemory),
-        Err(RigError::Failed) => Err(MakeFault::Rig(member, Kind::DataSet(structure))),
-    }
+    let device = new_device(alloc, rig, member, Kind::DataSet(structure), size)?;
+    let data_set = DataSet::new(device, shape.block_size);
+    Ok(MemberDataSet::with_hands(data_set, hands))
 }
 
 /// Adds the data set of a member for the next structure.

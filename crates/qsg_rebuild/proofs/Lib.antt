@@ -10,3 +10,4 @@ pub mod Pacing
 pub mod Making
 pub mod Going
 pub mod Acting
+pub mod Within

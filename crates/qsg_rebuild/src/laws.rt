@@ -10,6 +10,7 @@ ghost use Rattle.qsg_dataset.specs.Contents.{IsShut};
 ghost use Rattle.qsg_space.specs.Spaces.{is_used};
 ghost use Rattle.qsg_datasets.specs.Kept.{IsKept, set_in, used_in};
 ghost use Rattle.qsg_blocks.specs.State.{Ground, AreTold};
+ghost use Rattle.qsg_blocks.specs.Laws.{IsFitting};
 ghost use Rattle.qsg_blocks.specs.Changes.{Change, IsMade};
 ghost use Rattle.qsg_blocks.specs.Works.{FitsStart, IsOtherMembers};
 ghost use Rattle.qsg_parts.specs.Owned.{Owned};
@@ -18,13 +19,18 @@ ghost use Rattle.qsg_rebuild.specs.declared.phases.RebuildTurn.TheVariants.{More
 ghost use Rattle.qsg_rebuild.specs.declared.phases.RebuildError.{RebuildError};
 ghost use Rattle.qsg_rebuild.specs.declared.work.RebuildWork.{RebuildWork};
 ghost use Rattle.qsg_rebuild.specs.Steps.{new_work, set_of, structure_of, NextRebuild};
-ghost use Rattle.qsg_rebuild.specs.Needs.{MayStep};
+ghost use Rattle.qsg_rebuild.specs.Needs.{AreWithin, MayStep};
 ghost use Rattle.qsg_rebuild.specs.Leaving.{LeavesRest, IsElsewhere};
 ghost use Rattle.qsg_rebuild.specs.Grounds.{ground_of};
 ghost use Rattle.qsg_rebuild.specs.Fitting.{IsLawful, HasGate, FitsRebuild, MayAct, ended, is_listed};
 ghost use Rattle.qsg_rebuild.specs.Pace.{left_of_rebuild};
 
 use qsg_blocks::{a_starter_counts_blocks, a_starter_shuts_the_gate, every_change_keeps_starters};
+
+/// Each block that an entry lists is one of its owner's data set, so that a rebuild may look at all entries.
+pub fn listed_blocks_are_within()
+    ensures { (m : Member) (g : Ground) → IsFitting g → AreWithin m (g.sets m).contents.blocks g.structure.entries }
+{}
 
 /// A step leaves all but its own data set as it was, and of that the size and what tasks have taken.
 pub fn a_step_leaves_the_rest()

@@ -17,6 +17,7 @@ mod work;
 pub use laws::{
     a_map_that_is_made_is_exact, a_rebuild_makes_a_map, a_step_is_a_change_of_blocks,
     a_step_leaves_the_rest, every_change_keeps_rebuilds, every_step_lowers_what_is_left,
+    listed_blocks_are_within,
 };
 pub use phases::{Phase, RebuildError, RebuildTurn};
 pub use work::RebuildWork;

@@ -5,6 +5,7 @@ ghost use Rattle.std.specs.List.{AllByRecursion};
 ghost use Rattle.qsg_num.specs.declared.ids.Block.{Block as BlockSeen};
 ghost use Rattle.qsg_num.specs.declared.seats.Member.TheVariants as members;
 ghost use Rattle.qsg_num.specs.declared.seats.StructNo.TheVariants as structures;
+ghost use Rattle.qsg_disk_mem.specs.Mem.{cells_in};
 ghost use Rattle.qsg_datasets.specs.Kept.{HasSet};
 ghost use Rattle.qsg_parts.specs.Owned.{owned};
 ghost use Rattle.qsg_rebuild.specs.Needs.{IsWithin, AreWithin, MayStep};
@@ -50,6 +51,13 @@ const EXTENT: u32 = 9_216;
 
 // ---- a data set
 
+/// A data set of ten blocks on a device.
+fn over(alloc: Global, device: MemDisk) -> Option<MemberDataSet<MemDisk>>
+    requires { length (cells_in device) ≡ 9216 }
+{
+    MemberDataSet::new(alloc, DataSet::new(device, 512)).ok()
+}
+
 /// A data set of ten blocks, whose device fails in these calls.
 fn data_set(alloc: Global, failing: &[u32]) -> Option<MemberDataSet<MemDisk>> {
     let calls = Vec::from_slice(alloc, failing).ok()?;
@@ -57,7 +65,7 @@ fn data_set(alloc: Global, failing: &[u32]) -> Option<MemberDataSet<MemDisk>> {
     if device.size() != EXTENT {
         return None;
     }
-    MemberDataSet::new(alloc, DataSet::new(device, 512)).ok()
+    over(alloc, device)
 }
 
 /// One behind whose open gate stands what isn't a map.
@@ -71,7 +79,7 @@ fn garbled(alloc: Global) -> Option<MemberDataSet<MemDisk>> {
     if device.size() != EXTENT {
         return None;
     }
-    MemberDataSet::new(alloc, DataSet::new(device, 512)).ok()
+    over(alloc, device)
 }
 
 /// One in which a map is saved for epoch 0, by which the first three blocks are used.
@@ -169,7 +177,8 @@ fn with_entry(
 }
 
 fn empty(alloc: Global) -> Structure
-    ensures { result.last ≡ 0 }
+    ensures last { result.last ≡ 0 }
+    ensures epoch { result.epoch ≡ 0 }
 {
     Structure::new(alloc, StructNo::One, 100)
 }
