@@ -1,5 +1,5 @@
 -- what each step of a COMMIT or BACKOUT keeps, by its phase
-use Rattle.std.proofs.Common.{◌≡◌, ℕ, ◌+◌, ◌≤◌, length, Bool, true, false, Option, Some, None, Ok, Err, refl, sym, ap, subst, cond, arith}
+use Rattle.std.proofs.Common.{◌≡◌, ℕ, ◌+◌, ◌≤◌, length, Bool, true, false, Option, Some, None, Ok, Err, inl, refl, sym, ap, subst, cond, arith}
 use Rattle.std.proofs.lemmas.Bool.{false≢true}
 use Rattle.qsg_num.specs.declared.seats.Member.{Member}
 use Rattle.qsg_num.specs.declared.seats.TaskNo.{TaskNo}
@@ -24,11 +24,14 @@ use Rattle.qsg_commit.specs.Committing.{take_answer, IsPageStep, IsFailedPage}
 use Rattle.qsg_commit.specs.Ending.{settled, is_settled}
 use Rattle.qsg_commit.specs.Next.{Next, nothing_ended, unit_ended, LatchStep, after_page, after_settle, after_publish, after_undo, after_give_up, NextAt}
 use Rattle.qsg_commit.specs.Pending.{pending}
-use Rattle.qsg_fit.specs.Outcomes.{IsHardening, IsSettling, FitsEnd, KeepsEnd}
+use Rattle.qsg_fit.specs.Holding.{HoldsNothing}
+use Rattle.qsg_fit.specs.Outcomes.{IsHardening, IsSettling, FitsEnd, IsEndAt, KeepsEnd}
+use Rattle.qsg_fit.proofs.WholeEnds.{latch_whole, page_whole, failed_moved, failed_whole, mark_whole, publish_whole, undo_whole, give_up_whole}
+use Rattle.qsg_fit.proofs.EndMoves.{unmoved}
 use Rattle.qsg_fit.specs.Requests.{IsOwnEnd, has_end_begun, IsSteadyIf}
 use Rattle.qsg_fit.proofs.Begun.{goes}
-use Rattle.qsg_fit.proofs.Running.{latch_keeps, page_keeps, failed_keeps, failed_leaves, failed_fits}
-use Rattle.qsg_fit.proofs.Settling.{mark_keeps, publish_keeps, undo_keeps, pending_unit, give_up_keeps}
+use Rattle.qsg_fit.proofs.Running.{failed_keeps, failed_leaves}
+use Rattle.qsg_fit.proofs.Settling.{pending_unit}
 use Rattle.qsg_fit.proofs.Still.{IsStill, still, settled_still, published_still, undone_still, give_up_still, latched_still, page_still, failed_still}
 
 -- what a step that doesn't wait keeps
@@ -69,21 +72,21 @@ own_end a b q m t (Undo u count) s fits = settling_own a b q m t u s fits
 
 -- ---- the latch
 
-nothing_kept : (a b : ℕ) (p : Owned) (m : Member) (t : TaskNo) (at : Phase) → IsSteady a b p → FitsEnd (task_at m t p.managers) at → is_open (task_at m t p.managers).stage ≡ true → IsEndKept a b m t p (record { turn = nothing_ended; phase = at; parts = p })
-nothing_kept a b p m t at s fits ready = record {
-  keeps = record { steady = counts_steady a b (a + 1) b p (omega arith) (omega arith) s; spares = λ k w other. refl; fits_after = ready };
+nothing_kept : (a b : ℕ) (p : Owned) (m : Member) (t : TaskNo) (at : Phase) → IsSteady a b p → FitsEnd (task_at m t p.managers) at → is_open (task_at m t p.managers).stage ≡ true → HoldsNothing m t p → IsEndKept a b m t p (record { turn = nothing_ended; phase = at; parts = p })
+nothing_kept a b p m t at s fits ready empty = record {
+  keeps = record { steady = counts_steady a b (a + 1) b p (omega arith) (omega arith) s; spares = λ k w other. refl; moves = inl (unmoved m t p).moves; fits_after = record { ready = ready; empty = empty } };
   still = still p;
   begins = λ goes_on. absurd (false≢true goes_on);
 }
 
-latch_at : (a b : ℕ) (p q : Owned) (m : Member) (t : TaskNo) (turn : Turn) (phase : Phase) (taken : Taken) → IsSteady a b p → HasMember m p → is_open (task_at m t p.managers).stage ≡ true → take_answer m t p ≡ taken → LatchStep m t taken p turn phase q
+latch_at : (a b : ℕ) (p q : Owned) (m : Member) (t : TaskNo) (turn : Turn) (phase : Phase) (taken : Taken) → IsSteady a b p → HasMember m p → is_open (task_at m t p.managers).stage ≡ true → take_answer m t p ≡ taken → HoldsNothing m t p → LatchStep m t taken p turn phase q
     → KeepsEndAt a b m t Latch p turn phase q
-latch_at a b p q m t turn phase Nothing s has ready is step =
-    as_defined a b m t Latch p turn phase q (record { turn = nothing_ended; phase = Latch; parts = p }) (λ i. record { turn = step.0 i; phase = step.1 i; parts = step.2 i }) (nothing_kept a b p m t Latch s ready ready)
-latch_at a b p q m t turn phase (Busy busy) s has ready is step = subst (λ (x : Turn). KeepsEndAt a b m t Latch p x phase q) (sym step.0) (step.1, step.2)
-latch_at a b p q m t turn phase (Begun u count) s has ready is step =
+latch_at a b p q m t turn phase Nothing s has ready is empty step =
+    as_defined a b m t Latch p turn phase q (record { turn = nothing_ended; phase = Latch; parts = p }) (λ i. record { turn = step.0 i; phase = step.1 i; parts = step.2 i }) (nothing_kept a b p m t Latch s ready ready empty)
+latch_at a b p q m t turn phase (Busy busy) s has ready is empty step = subst (λ (x : Turn). KeepsEndAt a b m t Latch p x phase q) (sym step.0) (step.1, step.2)
+latch_at a b p q m t turn phase (Begun u count) s has ready is empty step =
     as_defined a b m t Latch p turn phase q (record { turn = More; phase = Pages u count; parts = q }) (λ i. record { turn = step.0 i; phase = step.1 i; parts = q })
-    (record { keeps = latch_keeps a b count p q m t u s has ready is step.2; still = latched_still m t u p q has.manager step.2; begins = λ goes_on. refl })
+    (record { keeps = latch_whole a b count p q m t u s has ready is empty step.2; still = latched_still m t u p q has.manager step.2; begins = λ goes_on. refl })
 
 -- ---- the pages
 
@@ -91,17 +94,17 @@ page_begins : (done : Bool) (u : UnitName) (count : ℕ) → has_end_begun (afte
 page_begins true u count = refl
 page_begins false u count = refl
 
-page_at : (a b count : ℕ) (p q : Owned) (t : TaskNo) (u : UnitName) (done : Bool) → IsSteady a (b + 1) p → HasMember u.member p → IsLogKept u.member p → IsHardening u (task_at u.member t p.managers) → IsPageStep u t done p q
+page_at : (a b count : ℕ) (p q : Owned) (t : TaskNo) (u : UnitName) (done : Bool) → IsSteady a (b + 1) p → HasMember u.member p → IsLogKept u.member p → IsHardening u (task_at u.member t p.managers) → HoldsNothing u.member t p → IsPageStep u t done p q
     → IsEndKept a b u.member t p (record { turn = More; phase = after_page done u count; parts = q })
-page_at a b count p q t u done s has kept hardens step = record {
-  keeps = page_keeps a b count p q t u done s has kept hardens step;
+page_at a b count p q t u done s has kept hardens empty step = record {
+  keeps = page_whole a b count p q t u done s has kept hardens empty step;
   still = page_still u t done p q has.manager step.made;
   begins = λ goes_on. page_begins done u count;
 }
 
-failed_at : (a b count : ℕ) (p q : Owned) (t : TaskNo) (u : UnitName) → IsSteady a (b + 1) p → HasMember u.member p → IsHardening u (task_at u.member t p.managers) → IsFailedPage u.member p q → IsEndKept a b u.member t p (record { turn = More; phase = Pages u count; parts = q })
-failed_at a b count p q t u s has hardens failed = record {
-  keeps = record { steady = failed_keeps a (b + 1) p q u.member s has failed; spares = failed_leaves p q u.member t has failed; fits_after = failed_fits p q u.member t (Pages u count) failed hardens };
+failed_at : (a b count : ℕ) (p q : Owned) (t : TaskNo) (u : UnitName) → IsSteady a (b + 1) p → HasMember u.member p → IsHardening u (task_at u.member t p.managers) → HoldsNothing u.member t p → IsFailedPage u.member p q → IsEndKept a b u.member t p (record { turn = More; phase = Pages u count; parts = q })
+failed_at a b count p q t u s has hardens empty failed = record {
+  keeps = record { steady = failed_keeps a (b + 1) p q u.member s has failed; spares = failed_leaves p q u.member t has failed; moves = inl (failed_moved p q u.member t failed); fits_after = failed_whole p q u.member t (Pages u count) failed (record { stands = hardens; empty = empty }) };
   still = failed_still u.member p q failed;
   begins = λ goes_on. refl;
 }
@@ -112,17 +115,17 @@ settle_begins : (none : Bool) (u : UnitName) (count : ℕ) → has_end_begun (co
 settle_begins true u count = refl
 settle_begins false u count = refl
 
-settle_at : (a b count : ℕ) (p : Owned) (t : TaskNo) (u : UnitName) → IsSteady a (b + 1) p → HasMember u.member p → IsSettling u (task_at u.member t p.managers) → IsEndKept a b u.member t p (after_settle t u count p)
-settle_at a b count p t u s has settling = record {
-  keeps = mark_keeps a b count p t u s has settling;
+settle_at : (a b count : ℕ) (p : Owned) (t : TaskNo) (u : UnitName) → IsSteady a (b + 1) p → HasMember u.member p → IsSettling u (task_at u.member t p.managers) → HoldsNothing u.member t p → IsEndKept a b u.member t p (after_settle t u count p)
+settle_at a b count p t u s has settling empty = record {
+  keeps = mark_whole a b count p t u s has settling empty;
   still = settled_still u t p has.manager;
   begins = λ goes_on. settle_begins (is_settled u t (settled u t p)) u count;
 }
 
 publish_at : (a b count : ℕ) (p : Owned) (t : TaskNo) (u : UnitName) → IsSteady a (b + 1) p → HasMember u.member p → IsLogKept u.member p → IsSettling u (task_at u.member t p.managers) × (next_claim (task_at u.member t p.managers) ≡ None)
-    → IsEndKept a b u.member t p (after_publish t u count p)
-publish_at a b count p t u s has kept fits = record {
-  keeps = publish_keeps a b count p t u s has kept fits.0 fits.1;
+    → HoldsNothing u.member t p → IsEndKept a b u.member t p (after_publish t u count p)
+publish_at a b count p t u s has kept fits empty = record {
+  keeps = publish_whole a b count p t u s has kept fits.0 fits.1 empty;
   still = published_still u t p has.manager;
   begins = λ goes_on. absurd (false≢true goes_on);
 }
@@ -133,9 +136,9 @@ undo_begins : (none : Bool) (u : UnitName) (count : ℕ) (at : Phase) → goes (
 undo_begins true u count at goes_on = absurd (false≢true goes_on)
 undo_begins false u count at goes_on = refl
 
-undo_at : (a b count : ℕ) (p : Owned) (t : TaskNo) (u : UnitName) (at : Phase) → IsSteady a (b + 1) p → HasMember u.member p → IsLogKept u.member p → IsSettling u (task_at u.member t p.managers) → IsEndKept a b u.member t p (after_undo t u count at p)
-undo_at a b count p t u at s has kept settling = record {
-  keeps = undo_keeps a b count p t u at s has kept settling;
+undo_at : (a b count : ℕ) (p : Owned) (t : TaskNo) (u : UnitName) (at : Phase) → IsSteady a (b + 1) p → HasMember u.member p → IsLogKept u.member p → IsSettling u (task_at u.member t p.managers) → HoldsNothing u.member t p → IsEndKept a b u.member t p (after_undo t u count at p)
+undo_at a b count p t u at s has kept settling empty = record {
+  keeps = undo_whole a b count p t u at s has kept settling empty;
   still = undone_still u t p has.manager;
   begins = undo_begins (is_settled u t (settled u t p)) u count at;
 }
@@ -144,43 +147,43 @@ give_up_begins : (t : TaskNo) (found : Option (UnitName × ℕ)) (p : Owned) →
 give_up_begins t None p goes_on = absurd (false≢true goes_on)
 give_up_begins t (Some (u, count)) p goes_on = undo_begins _ u count GiveUp goes_on
 
-give_up_at : (a b : ℕ) (p : Owned) (m : Member) (t : TaskNo) → IsSteady a b p → HasMember m p → IsLogKept m p → is_open (task_at m t p.managers).stage ≡ true → IsEndKept a b m t p (after_give_up t (pending (task_at m t p.managers)) p)
-give_up_at a b p m t s has kept ready =
+give_up_at : (a b : ℕ) (p : Owned) (m : Member) (t : TaskNo) → IsSteady a b p → HasMember m p → IsLogKept m p → is_open (task_at m t p.managers).stage ≡ true → HoldsNothing m t p → IsEndKept a b m t p (after_give_up t (pending (task_at m t p.managers)) p)
+give_up_at a b p m t s has kept ready empty =
     let found = pending (task_at m t p.managers) in
     record {
-      keeps = give_up_keeps a b p m t s has kept ready;
+      keeps = give_up_whole a b p m t s has kept ready empty;
       still = give_up_still t found p (λ u n is. subst (λ (k : Member). member_number k ≤ length p.managers) (sym (s.own m t u (pending_unit (task_at m t p.managers) u n is))) has.manager);
       begins = give_up_begins t found p;
     }
 
 -- ---- each step
 
-pub end_keeps : (a b : ℕ) (p q : Owned) (m : Member) (t : TaskNo) (at : Phase) (turn : Turn) (phase : Phase) → IsSteadyIf (has_end_begun at) a b p → HasMember m p → IsLogKept m p → IsOwnEnd m at → FitsEnd (task_at m t p.managers) at → NextAt m t at p (Ok turn) phase q
+pub end_keeps : (a b : ℕ) (p q : Owned) (m : Member) (t : TaskNo) (at : Phase) (turn : Turn) (phase : Phase) → IsSteadyIf (has_end_begun at) false a b p → HasMember m p → IsLogKept m p → IsOwnEnd m at → FitsEnd (task_at m t p.managers) at → HoldsNothing m t p → NextAt m t at p (Ok turn) phase q
     → KeepsEndAt a b m t at p turn phase q
-end_keeps a b p q m t Latch turn phase s has kept own fits next = latch_at a b p q m t turn phase (take_answer m t p) s has fits refl next
-end_keeps a b p q m t (Pages u count) turn phase s has kept own fits (done, more, is, step) =
+end_keeps a b p q m t Latch turn phase s has kept own fits empty next = latch_at a b p q m t turn phase (take_answer m t p) s has fits refl empty next
+end_keeps a b p q m t (Pages u count) turn phase s has kept own fits empty (done, more, is, step) =
     let n : Next = record { turn = More; phase = after_page done u count; parts = q } in
     as_defined a b m t (Pages u count) p turn phase q n (λ i. record { turn = more i; phase = is i; parts = q })
-    (subst (λ (k : Member). HasMember k p → IsLogKept k p → IsHardening u (task_at k t p.managers) → IsEndKept a b k t p n) own (λ there held hardens. page_at a b count p q t u done s there held hardens step) has kept fits)
-end_keeps a b p q m t (Settle u count) turn phase s has kept own fits next =
+    (subst (λ (k : Member). HasMember k p → IsLogKept k p → IsHardening u (task_at k t p.managers) → HoldsNothing k t p → IsEndKept a b k t p n) own (λ there held hardens none. page_at a b count p q t u done s there held hardens none step) has kept fits empty)
+end_keeps a b p q m t (Settle u count) turn phase s has kept own fits empty next =
     as_defined a b m t (Settle u count) p turn phase q (after_settle t u count p) next
-    (subst (λ (k : Member). HasMember k p → IsSettling u (task_at k t p.managers) → IsEndKept a b k t p (after_settle t u count p)) own (settle_at a b count p t u s) has fits)
-end_keeps a b p q m t (Publish u count) turn phase s has kept own fits next =
+    (subst (λ (k : Member). HasMember k p → IsSettling u (task_at k t p.managers) → HoldsNothing k t p → IsEndKept a b k t p (after_settle t u count p)) own (settle_at a b count p t u s) has fits empty)
+end_keeps a b p q m t (Publish u count) turn phase s has kept own fits empty next =
     as_defined a b m t (Publish u count) p turn phase q (after_publish t u count p) next
-    (subst (λ (k : Member). HasMember k p → IsLogKept k p → IsSettling u (task_at k t p.managers) × (next_claim (task_at k t p.managers) ≡ None) → IsEndKept a b k t p (after_publish t u count p)) own (publish_at a b count p t u s) has kept fits)
-end_keeps a b p q m t GiveUp turn phase s has kept own fits next = as_defined a b m t GiveUp p turn phase q (after_give_up t (pending (task_at m t p.managers)) p) next (give_up_at a b p m t s has kept fits)
-end_keeps a b p q m t (Undo u count) turn phase s has kept own fits next =
+    (subst (λ (k : Member). HasMember k p → IsLogKept k p → IsSettling u (task_at k t p.managers) × (next_claim (task_at k t p.managers) ≡ None) → HoldsNothing k t p → IsEndKept a b k t p (after_publish t u count p)) own (publish_at a b count p t u s) has kept fits empty)
+end_keeps a b p q m t GiveUp turn phase s has kept own fits empty next = as_defined a b m t GiveUp p turn phase q (after_give_up t (pending (task_at m t p.managers)) p) next (give_up_at a b p m t s has kept fits empty)
+end_keeps a b p q m t (Undo u count) turn phase s has kept own fits empty next =
     as_defined a b m t (Undo u count) p turn phase q (after_undo t u count (Undo u count) p) next
-    (subst (λ (k : Member). HasMember k p → IsLogKept k p → IsSettling u (task_at k t p.managers) → IsEndKept a b k t p (after_undo t u count (Undo u count) p)) own (undo_at a b count p t u (Undo u count) s) has kept fits)
+    (subst (λ (k : Member). HasMember k p → IsLogKept k p → IsSettling u (task_at k t p.managers) → HoldsNothing k t p → IsEndKept a b k t p (after_undo t u count (Undo u count) p)) own (undo_at a b count p t u (Undo u count) s) has kept fits empty)
 
-pub failed_end_keeps : (a b : ℕ) (p q : Owned) (m : Member) (t : TaskNo) (at phase : Phase) → IsSteadyIf (has_end_begun at) a b p → HasMember m p → IsOwnEnd m at → FitsEnd (task_at m t p.managers) at → NextAt m t at p (Err LogFailed) phase q
+pub failed_end_keeps : (a b : ℕ) (p q : Owned) (m : Member) (t : TaskNo) (at phase : Phase) → IsSteadyIf (has_end_begun at) false a b p → HasMember m p → IsOwnEnd m at → FitsEnd (task_at m t p.managers) at → HoldsNothing m t p → NextAt m t at p (Err LogFailed) phase q
     → IsEndKept a b m t p (record { turn = More; phase = phase; parts = q })
-failed_end_keeps a b p q m t Latch phase s has own fits next = absurd next
-failed_end_keeps a b p q m t (Pages u count) phase s has own fits next =
+failed_end_keeps a b p q m t Latch phase s has own fits empty next = absurd next
+failed_end_keeps a b p q m t (Pages u count) phase s has own fits empty next =
     subst (λ (x : Phase). IsEndKept a b m t p (record { turn = More; phase = x; parts = q })) (sym next.0)
-    (subst (λ (k : Member). HasMember k p → IsHardening u (task_at k t p.managers) → IsFailedPage k p q → IsEndKept a b k t p (record { turn = More; phase = Pages u count; parts = q })) own (failed_at a b count p q t u s) has fits
+    (subst (λ (k : Member). HasMember k p → IsHardening u (task_at k t p.managers) → HoldsNothing k t p → IsFailedPage k p q → IsEndKept a b k t p (record { turn = More; phase = Pages u count; parts = q })) own (failed_at a b count p q t u s) has fits empty
     (subst (λ (k : Member). IsFailedPage k p q) own next.1))
-failed_end_keeps a b p q m t (Settle u count) phase s has own fits next = absurd next
-failed_end_keeps a b p q m t (Publish u count) phase s has own fits next = absurd next
-failed_end_keeps a b p q m t GiveUp phase s has own fits next = absurd next
-failed_end_keeps a b p q m t (Undo u count) phase s has own fits next = absurd next
+failed_end_keeps a b p q m t (Settle u count) phase s has own fits empty next = absurd next
+failed_end_keeps a b p q m t (Publish u count) phase s has own fits empty next = absurd next
+failed_end_keeps a b p q m t GiveUp phase s has own fits empty next = absurd next
+failed_end_keeps a b p q m t (Undo u count) phase s has own fits empty next = absurd next

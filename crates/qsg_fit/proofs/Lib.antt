@@ -1,3 +1,8 @@
+pub mod Bare
+pub mod EndMoves
+pub mod WholeEnds
+pub mod Answered
+pub mod Others
 pub mod Fitting
 pub mod Opened
 pub mod Puts

@@ -168,8 +168,8 @@ writing a b t words u terms epoch p None bound s has kept ids ready is =
     let left = id_left a (b + 1) p terms.structure s (omega (arith, bound)) in
     let y = with_put c message (next_id structure) task in
     record {
-      steady = put_steady a b p t u task.ops task.claims c (head_of words terms) (Inline words.body) message (logged words terms) s has kept
-          (λ outside. record {
+      steady = put_steady a b p t u task.ops task.claims c (head_of words terms) words.body message (logged words terms) s has kept
+          (record {
             member = record { within = has.manager; five = five };
             structure = record { within = ready.within; served = served (lost_of structure c) (room_refusal structure (head_of words terms) (Inline words.body) terms.max_depth) is };
             has = ready.holds;

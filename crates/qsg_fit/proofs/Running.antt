@@ -33,7 +33,8 @@ use Rattle.qsg_commit.specs.Committing as ends
 use Rattle.qsg_commit.specs.Next.{after_page}
 use Rattle.qsg_commit.specs.Pending.{pending}
 use Rattle.qsg_commit.proofs.Writing.{ends_is}
-use Rattle.qsg_fit.specs.Outcomes.{IsHardening, FitsEnd, KeepsEnd}
+use Rattle.qsg_fit.specs.Outcomes.{IsHardening, FitsEnd}
+use Rattle.qsg_fit.proofs.Bare.{BareEnd}
 use Rattle.qsg_fit.proofs.Opened.{opened, task_stored}
 use Rattle.qsg_fit.proofs.Settling.{pending_unit}
 
@@ -56,7 +57,7 @@ begun_free (Some (v, n)) (Some busy) u count is = absurd (true≢false (sym (ap 
 begun_free (Some (v, n)) None u count is = (refl, (n, ap (λ (x : UnitName). Some (x, n)) (ap (unit_taken v) is)))
 
 latched_keeps : (a b count : ℕ) (p q : Owned) (t : TaskNo) (u : UnitName) → IsSteady a b p → HasMember u.member p → (task_at u.member t p.managers).unit ≡ Some u → is_open (task_at u.member t p.managers).stage ≡ true
-    → latch_of (manager_in u.member p.managers).tasks ≡ None → IsLatched u.member t u p q → KeepsEnd a b u.member t p (record { turn = More; phase = Pages u count; parts = q })
+    → latch_of (manager_in u.member p.managers).tasks ≡ None → IsLatched u.member t u p q → BareEnd a b u.member t p (record { turn = More; phase = Pages u count; parts = q })
 latched_keeps a b count p q t u s has holds ready free latch =
     let m = u.member in
     let task = task_at m t p.managers in
@@ -69,7 +70,7 @@ latched_keeps a b count p q t u s has holds ready free latch =
     let here : HasMember m roomy = record { manager = has.manager; log = has.log } in
     let more = roomy_steady a b room p latch.more s in
     let begun = begun_steady a b roomy t u task.ops task.claims pages more here opens free (record { structures = structures_of task.ops; are = refl; some = latch.some; records = latch.records }) latch.room in
-    subst (λ (x : Owned). KeepsEnd a b m t p (record { turn = More; phase = Pages u count; parts = x })) (sym latch.parts) (record {
+    subst (λ (x : Owned). BareEnd a b m t p (record { turn = More; phase = Pages u count; parts = x })) (sym latch.parts) (record {
       steady = counts_steady a b a (b + 1) _ (omega arith) (omega arith) begun;
       spares = begun_spares a b roomy t u pages more here;
       fits_after = record {
@@ -81,11 +82,11 @@ latched_keeps a b count p q t u s has holds ready free latch =
     })
 
 pub latch_keeps : (a b count : ℕ) (p q : Owned) (m : Member) (t : TaskNo) (u : UnitName) → IsSteady a b p → HasMember m p → is_open (task_at m t p.managers).stage ≡ true → take_answer m t p ≡ Begun u count → IsLatched m t u p q
-    → KeepsEnd a b m t p (record { turn = More; phase = Pages u count; parts = q })
+    → BareEnd a b m t p (record { turn = More; phase = Pages u count; parts = q })
 latch_keeps a b count p q m t u s has ready is latch =
     let found = begun_free (pending (task_at m t p.managers)) (latch_of (manager_in m p.managers).tasks) u count is in
     let holds = pending_unit (task_at m t p.managers) u found.1.0 found.1.1 in
-    subst (λ (k : Member). HasMember k p → (task_at k t p.managers).unit ≡ Some u → is_open (task_at k t p.managers).stage ≡ true → latch_of (manager_in k p.managers).tasks ≡ None → IsLatched k t u p q → KeepsEnd a b k t p (record { turn = More; phase = Pages u count; parts = q })) (s.own m t u holds)
+    subst (λ (k : Member). HasMember k p → (task_at k t p.managers).unit ≡ Some u → is_open (task_at k t p.managers).stage ≡ true → latch_of (manager_in k p.managers).tasks ≡ None → IsLatched k t u p q → BareEnd a b k t p (record { turn = More; phase = Pages u count; parts = q })) (s.own m t u holds)
     (λ h i o f l. latched_keeps a b count p q t u s h i o f l) has holds ready found.0 latch
 
 -- ---- a page
@@ -114,13 +115,13 @@ ends_by a b p q t u done s has kept hardens step =
     sym (ends_with (log_in u.member p.logs).writer kept.within (in_hand a b p u.member t s has hardens)) ∙ ap (λ (w : LogState). is_none w.hand) (sym step.written.writer) ∙ sym step.last
 
 pub page_keeps : (a b count : ℕ) (p q : Owned) (t : TaskNo) (u : UnitName) (done : Bool) → IsSteady a (b + 1) p → HasMember u.member p → IsLogKept u.member p → IsHardening u (task_at u.member t p.managers) → IsPageStep u t done p q
-    → KeepsEnd a b u.member t p (record { turn = More; phase = after_page done u count; parts = q })
+    → BareEnd a b u.member t p (record { turn = More; phase = after_page done u count; parts = q })
 page_keeps a b count p q t u false s has kept hard step =
     let m = u.member in
     let log = log_in m q.logs in
     let hardens = ap (λ (z : Task). is_hardening z.stage) hard.is in
     let written = as_written (log_in m p.logs) log step.written in
-    subst (λ (x : Owned). KeepsEnd a b m t p (record { turn = More; phase = Pages u count; parts = x })) (sym step.made) (record {
+    subst (λ (x : Owned). BareEnd a b m t p (record { turn = More; phase = Pages u count; parts = x })) (sym step.made) (record {
       steady = paged_steady a (b + 1) p m t log s has kept hardens (ends_by a (b + 1) p q t u false s has kept hardens step) written;
       spares = paged_spares a (b + 1) p m t log s has hardens written;
       fits_after = hard;
@@ -134,7 +135,7 @@ page_keeps a b count p q t u true s has kept hard step =
     let hardens = ap (λ (z : Task). is_hardening z.stage) hard.is in
     let holds : task ≡ hardening_task u task.ops task.claims hard.first = hard.is ∙ sym (ap (λ (z : Task). hardening_task u z.ops z.claims hard.first) hard.is) in
     let written = as_written (log_in m p.logs) log step.written in
-    subst (λ (x : Owned). KeepsEnd a b m t p (record { turn = More; phase = after_page true u count; parts = x })) (sym step.made.parts) (record {
+    subst (λ (x : Owned). BareEnd a b m t p (record { turn = More; phase = after_page true u count; parts = x })) (sym step.made.parts) (record {
       steady = hardened_steady a (b + 1) room p t u task.ops task.claims hard.first log s has holds (ends_by a (b + 1) p q t u true s has kept hardens step) written step.made.room;
       spares = hardened_spares a (b + 1) room p t u task.ops log s has hardens written;
       fits_after = record {

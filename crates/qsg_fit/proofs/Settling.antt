@@ -34,7 +34,8 @@ use Rattle.qsg_commit.specs.Committing.{is_none}
 use Rattle.qsg_commit.specs.Ending.{settled_by, settled, is_settled, ended, page_or, low_page, published, given_up}
 use Rattle.qsg_commit.specs.Next.{unit_ended, after_settle, after_publish, after_undo, after_give_up}
 use Rattle.qsg_commit.specs.Pending.{pending}
-use Rattle.qsg_fit.specs.Outcomes.{IsSettling, FitsEnd, KeepsEnd}
+use Rattle.qsg_fit.specs.Outcomes.{IsSettling, FitsEnd}
+use Rattle.qsg_fit.proofs.Bare.{BareEnd}
 use Rattle.qsg_fit.proofs.Opened.{opened, task_stored}
 
 -- ---- a task changes
@@ -85,7 +86,7 @@ none_is : (o : Option Claim) → is_none o ≡ true → o ≡ None
 none_is None is = refl
 none_is (Some c) is = absurd (true≢false (sym is))
 
-pub mark_keeps : (a b count : ℕ) (p : Owned) (t : TaskNo) (u : UnitName) → IsSteady a (b + 1) p → HasMember u.member p → IsSettling u (task_at u.member t p.managers) → KeepsEnd a b u.member t p (after_settle t u count p)
+pub mark_keeps : (a b count : ℕ) (p : Owned) (t : TaskNo) (u : UnitName) → IsSteady a (b + 1) p → HasMember u.member p → IsSettling u (task_at u.member t p.managers) → BareEnd a b u.member t p (after_settle t u count p)
 mark_keeps a b count p t u s has settling =
     let off = mark_off a (b + 1) p t u s has settling in
     record { steady = off.steady; spares = off.spares; fits_after = by (is_settled u t (settled u t p)) refl off.settling }
@@ -128,7 +129,7 @@ low_is m p = by (first_needed (manager_in m p.managers).tasks)
     by None = refl
     by (Some first) = refl
 
-pub publish_keeps : (a b count : ℕ) (p : Owned) (t : TaskNo) (u : UnitName) → IsSteady a (b + 1) p → HasMember u.member p → IsLogKept u.member p → IsSettling u (task_at u.member t p.managers) → next_claim (task_at u.member t p.managers) ≡ None → KeepsEnd a b u.member t p (after_publish t u count p)
+pub publish_keeps : (a b count : ℕ) (p : Owned) (t : TaskNo) (u : UnitName) → IsSteady a (b + 1) p → HasMember u.member p → IsLogKept u.member p → IsSettling u (task_at u.member t p.managers) → next_claim (task_at u.member t p.managers) ≡ None → BareEnd a b u.member t p (after_publish t u count p)
 publish_keeps a b count p t u s has kept settling none =
     let m = u.member in
     let end = at_end a (b + 1) p t u s has kept settling none in
@@ -141,11 +142,11 @@ publish_keeps a b count p t u s has kept settling none =
 
 -- ---- BACKOUT
 
-pub undo_keeps : (a b count : ℕ) (p : Owned) (t : TaskNo) (u : UnitName) (at : Phase) → IsSteady a (b + 1) p → HasMember u.member p → IsLogKept u.member p → IsSettling u (task_at u.member t p.managers) → KeepsEnd a b u.member t p (after_undo t u count at p)
+pub undo_keeps : (a b count : ℕ) (p : Owned) (t : TaskNo) (u : UnitName) (at : Phase) → IsSteady a (b + 1) p → HasMember u.member p → IsLogKept u.member p → IsSettling u (task_at u.member t p.managers) → BareEnd a b u.member t p (after_undo t u count at p)
 undo_keeps a b count p t u at s has kept settling = by (is_settled u t (settled u t p)) refl (mark_off a (b + 1) p t u s has settling)
   where
     by : (z : Bool) → is_settled u t (settled u t p) ≡ z → IsMarkOff a (b + 1) u t p (settled u t p)
-        → KeepsEnd a b u.member t p (record { turn = cond z (unit_ended u count) More; phase = cond z at (Undo u count); parts = cond z (ended u t (settled u t p)) (settled u t p) })
+        → BareEnd a b u.member t p (record { turn = cond z (unit_ended u count) More; phase = cond z at (Undo u count); parts = cond z (ended u t (settled u t p)) (settled u t p) })
     by true is off =
         let q = settled u t p in
         let m = u.member in
@@ -166,7 +167,7 @@ pending_unit task u n is = by (nat_lt 0 (length task.ops)) task.unit is
     by true (Some v) is = ap (λ (x : UnitName × ℕ). Some x.0) (same_Some (v, length task.ops) (u, n) is)
 
 given_up_keeps : (a b count : ℕ) (p : Owned) (t : TaskNo) (u : UnitName) → IsSteady a (b + 1) p → HasMember u.member p → IsLogKept u.member p → (task_at u.member t p.managers).unit ≡ Some u → is_open (task_at u.member t p.managers).stage ≡ true
-    → KeepsEnd a b u.member t p (after_give_up t (Some (u, count)) p)
+    → BareEnd a b u.member t p (after_give_up t (Some (u, count)) p)
 given_up_keeps a b count p t u s has kept holds ready =
     let m = u.member in
     let task = task_at m t p.managers in
@@ -182,13 +183,13 @@ given_up_keeps a b count p t u s has kept holds ready =
       fits_after = undone.fits_after;
     }
 
-give_up_by : (a b : ℕ) (p : Owned) (m : Member) (t : TaskNo) (found : Option (UnitName × ℕ)) → IsSteady a b p → HasMember m p → IsLogKept m p → is_open (task_at m t p.managers).stage ≡ true → pending (task_at m t p.managers) ≡ found → KeepsEnd a b m t p (after_give_up t found p)
+give_up_by : (a b : ℕ) (p : Owned) (m : Member) (t : TaskNo) (found : Option (UnitName × ℕ)) → IsSteady a b p → HasMember m p → IsLogKept m p → is_open (task_at m t p.managers).stage ≡ true → pending (task_at m t p.managers) ≡ found → BareEnd a b m t p (after_give_up t found p)
 give_up_by a b p m t None s has kept ready is = record { steady = counts_steady a b (a + 1) b p (omega arith) (omega arith) s; spares = λ k w other. refl; fits_after = ready }
 give_up_by a b p m t (Some (u, count)) s has kept ready is =
     let holds = pending_unit (task_at m t p.managers) u count is in
     let more = counts_steady a b a (b + 1) p (omega arith) (omega arith) s in
-    subst (λ (k : Member). HasMember k p → IsLogKept k p → (task_at k t p.managers).unit ≡ Some u → is_open (task_at k t p.managers).stage ≡ true → KeepsEnd a b k t p (after_give_up t (Some (u, count)) p)) (s.own m t u holds)
+    subst (λ (k : Member). HasMember k p → IsLogKept k p → (task_at k t p.managers).unit ≡ Some u → is_open (task_at k t p.managers).stage ≡ true → BareEnd a b k t p (after_give_up t (Some (u, count)) p)) (s.own m t u holds)
     (λ h k o r. given_up_keeps a b count p t u more h k o r) has kept holds ready
 
-pub give_up_keeps : (a b : ℕ) (p : Owned) (m : Member) (t : TaskNo) → IsSteady a b p → HasMember m p → IsLogKept m p → is_open (task_at m t p.managers).stage ≡ true → KeepsEnd a b m t p (after_give_up t (pending (task_at m t p.managers)) p)
+pub give_up_keeps : (a b : ℕ) (p : Owned) (m : Member) (t : TaskNo) → IsSteady a b p → HasMember m p → IsLogKept m p → is_open (task_at m t p.managers).stage ≡ true → BareEnd a b m t p (after_give_up t (pending (task_at m t p.managers)) p)
 give_up_keeps a b p m t s has kept ready = give_up_by a b p m t (pending (task_at m t p.managers)) s has kept ready refl

@@ -1,4 +1,9 @@
-pub mod Moving
 pub mod Records
 pub mod Answering
+pub mod Moving
+pub mod Grounds
 pub mod Onward
+pub mod Heads
+pub mod Readings
+pub mod Undoing
+pub mod Keeping

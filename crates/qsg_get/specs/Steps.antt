@@ -1,5 +1,5 @@
--- what each step of a get makes of the work and of the group
-use Rattle.std.specs.Prelude.{ℕ, Bool, true, nat_lt, if◌then◌else◌, List, length, Option, Some, None, Result, Ok, Err}
+-- what each step of a get but the read of a block makes of the work and of the group
+use Rattle.std.specs.Prelude.{ℕ, Bool, true, false, nat_lt, if◌then◌else◌, List, length, replicate, Option, Some, None, Result, Ok, Err}
 use Rattle.qsg_num.specs.declared.seats.Member.{Member}
 use Rattle.qsg_num.specs.declared.seats.StructNo.{StructNo}
 use Rattle.qsg_num.specs.declared.seats.TaskNo.{TaskNo}
@@ -8,13 +8,14 @@ use Rattle.qsg_lists.specs.declared.parts.Connection.{Connection}
 use Rattle.qsg_lists.specs.declared.parts.Entry.{Entry}
 use Rattle.qsg_lists.specs.declared.parts.Lost.{Lost}
 use Rattle.qsg_lists.specs.declared.parts.Seen.{Seen}
-use Rattle.qsg_lists.specs.declared.parts.Selector.{Selector}
-use Rattle.qsg_lists.specs.Structures.{connect_answer, lost_of}
+use Rattle.qsg_lists.specs.Entries.{entry_at}
+use Rattle.qsg_lists.specs.Settling.{settle_answer, settled_entry, revised_if_done}
+use Rattle.qsg_lists.specs.Structures.{ListStructure, connect_answer, lost_of}
+use Rattle.qsg_logneed.specs.declared.counting.Filling.{Filling}
 use Rattle.qsg_logpage.specs.declared.writer.NoLog.{NoLog as NoPages}
 use Rattle.qsg_repo.specs.Keeping.{keep}
 use Rattle.qsg_requests.specs.declared.replies.Reason.{Reason}
-use Rattle.qsg_requests.specs.declared.replies.Reason.TheVariants.{StructureFailed, NoMessage, NoLog, NotYet}
-use Rattle.qsg_requests.specs.declared.replies.Reply.{Reply}
+use Rattle.qsg_requests.specs.declared.replies.Reason.TheVariants.{StructureFailed, NoMessage, NoLog, DataSetFault}
 use Rattle.qsg_requests.specs.declared.replies.Reply.TheVariants.{Got, Refused}
 use Rattle.qsg_requests.specs.declared.replies.Turn.{Turn}
 use Rattle.qsg_requests.specs.declared.replies.Turn.TheVariants.{More, Ended}
@@ -22,19 +23,20 @@ use Rattle.qsg_manager.specs.declared.managers.Manager.{Manager}
 use Rattle.qsg_manager.specs.declared.taken.Taken.{Taken}
 use Rattle.qsg_manager.specs.declared.taken.TakenBody.{TakenBody}
 use Rattle.qsg_manager.specs.declared.taken.TakenBody.TheVariants.{Inside, Outside}
-use Rattle.qsg_manager.specs.Facilities.{structure_in}
-use Rattle.qsg_manager.specs.Getting.{found_in, with_taken, with_found, taken_of}
+use Rattle.qsg_manager.specs.Facilities.{structure_in, with_structure}
+use Rattle.qsg_manager.specs.Getting.{found_in, with_taken, with_found, taken_of, body_taken}
 use Rattle.qsg_manager.specs.Storage.{task_at, next_name}
-use Rattle.qsg_manager.specs.Units.{with_name}
+use Rattle.qsg_manager.specs.Units.{with_name, with_dropped}
 use Rattle.qsg_manager.specs.Views.{message_of}
-use Rattle.qsg_logs.specs.Kept.{KeptLog, log_in, with_log, need_of, with_reserved, with_record_of, fallen_back}
+use Rattle.qsg_bodies.specs.Using.{may_use}
+use Rattle.qsg_logs.specs.Kept.{KeptLog, log_in, with_log, need_of, filling_of, with_filling, with_reserved, with_record_of, fallen_back}
 use Rattle.qsg_logs.specs.Writers.{reserve_answer}
 use Rattle.qsg_parts.specs.Owned.{Owned}
 use Rattle.qsg_get.specs.declared.checking.Terms.{Terms}
+use Rattle.qsg_get.specs.declared.phases.Fetch.{Fetch}
 use Rattle.qsg_get.specs.declared.phases.Phase.{Phase}
-use Rattle.qsg_get.specs.declared.phases.Phase.TheVariants.{Check, Connect, Take}
+use Rattle.qsg_get.specs.declared.phases.Phase.TheVariants.{Check, Connect, Take, Look, Read, Deliver, Undo}
 use Rattle.qsg_get.specs.Checking.{check_answer}
-use Rattle.qsg_get.specs.Works.{Work}
 
 -- how a step ended, how far the get has come, and the parts of the group
 pub record Next : Type 0 where
@@ -109,41 +111,89 @@ use_of terms epoch = record { structure = terms.structure; epoch = epoch }
 abbrev pub logged : Bool → Option ℕ
 logged persistent = if persistent then got_record else None
 
--- the record is among those of the unit, which has reserved what they need
-abbrev pub with_operation : Member → TaskNo → UnitName → Bool → Owned → Owned
-with_operation m t u persistent p = at_log m (λ log. fallen_back t u true (with_record_of t (logged persistent) log)) p
+-- The record is among those of the unit. A get that is answered has reserved what they need; one that goes on keeps what
+-- the check reserved.
+abbrev pub log_with : TaskNo → UnitName → Bool → TakenBody → KeptLog → KeptLog
+log_with t u persistent (Inside body) log = fallen_back t u true (with_record_of t (logged persistent) log)
+log_with t u persistent (Outside owner blocks length) log = with_record_of t (logged persistent) log
+
+abbrev pub with_operation : Member → TaskNo → UnitName → Bool → TakenBody → Owned → Owned
+with_operation m t u persistent body p = at_log m (log_with t u persistent body) p
 
 -- the entry is marked, and the operation is in its unit
 abbrev pub with_message : Member → TaskNo → UnitName → Connection → Entry → Owned → Owned
-with_message m t u c e p = with_operation m t u e.head.persistent (record p {
+with_message m t u c e p = with_operation m t u e.head.persistent (body_taken e.place) (record p {
   structures = with_taken u c (Some e) p.structures;
   managers = with_found u.member t c (Some e) p.managers;
 })
 
--- the answer: the whole message, which a body outside its entry isn't told with yet
-abbrev pub told_of : StructNo → Taken → TakenBody → Reply
-told_of s taken (Inside body) = Got (message_of s taken.id taken.head body)
-told_of s taken (Outside owner blocks length) = Refused NotYet
+-- the answer has the message whose body stands in its entry; a body that stands outside is to be fetched
+abbrev pub after_body : UnitName → Terms → ℕ → Filling → Taken → TakenBody → Turn × Phase
+after_body u terms epoch filling taken (Inside body) = (Ended (Got (message_of terms.structure taken.id taken.head body)), Take u terms epoch)
+after_body u terms epoch filling taken (Outside owner blocks length) =
+    (More, Look (record { unit = u; terms = terms; epoch = epoch; id = taken.id; head = taken.head; owner = owner; blocks = blocks; length = length; filling = filling }))
 
-abbrev pub reply_of : StructNo → Taken → Reply
-reply_of s taken = told_of s taken taken.body
+-- how a get goes on that took this entry
+abbrev pub after_found : TaskNo → UnitName → Terms → ℕ → Owned → Entry → Turn × Phase
+after_found t u terms epoch p e = after_body u terms epoch (filling_of t (log_in u.member p.logs)) (taken_of e) (body_taken e.place)
 
 abbrev pub after_take : Member → TaskNo → UnitName → Terms → ℕ → Owned → Option Lost → Option Entry → Next
 after_take m t u terms epoch p (Some lost) found = refused StructureFailed (Take u terms epoch) (fallen m t u p)
 after_take m t u terms epoch p None None = refused NoMessage (Take u terms epoch) (fallen m t u p)
-after_take m t u terms epoch p None (Some e) =
-    record { turn = Ended (reply_of terms.structure (taken_of e)); phase = Take u terms epoch; parts = with_message m t u (use_of terms epoch) e p }
+after_take m t u terms epoch p None (Some e) = record { turn = (after_found t u terms epoch p e).0; phase = (after_found t u terms epoch p e).1; parts = with_message m t u (use_of terms epoch) e p }
 
--- ---- a step, by the phase
+-- ---- a body that stands outside its entry
 
-abbrev pub next_at : Member → TaskNo → List ℕ → Selector → Owned → Phase → Next
-next_at m t queue select p Check = after_check m t p (check_answer p.objects queue (length (task_at m t p.managers).ops))
-next_at m t queue select p (Connect u terms) = after_connect m t u terms p (connect_answer (structure_in terms.structure p.structures))
-next_at m t queue select p (Take u terms epoch) =
-    after_take m t u terms epoch p (lost_of (structure_in terms.structure p.structures) (use_of terms epoch)) (found_in (use_of terms epoch) queue terms.order select p.structures)
+-- the use of the structure by the get of this message
+abbrev pub connection_of : Fetch → Connection
+connection_of fetch = use_of fetch.terms fetch.epoch
 
-abbrev pub next_get : Work → Owned → Next
-next_get work p = next_at work.member work.task work.queue work.select p work.phase
+-- where blocks are left, the next one is to be read
+abbrev pub read_on : Fetch → List ℕ → ℕ → Phase
+read_on fetch room at = if nat_lt at (length fetch.blocks) then Read fetch room at else Deliver fetch room
+
+-- the body is read where the access of its owner's data set is enabled, into room that is made for it
+abbrev pub after_look : Fetch → Owned → Bool → Next
+after_look fetch p true = goes_on (read_on fetch (replicate fetch.length 0) 0) p
+after_look fetch p false = goes_on (Undo fetch) p
+
+-- ---- the get is undone
+
+-- the entry is on offer again, where the connection is served still
+abbrev pub offered_again : Fetch → ListStructure → ListStructure
+offered_again fetch s = revised_if_done (settle_answer s (connection_of fetch) fetch.id fetch.unit) fetch.id (settled_entry false) s
+
+-- what is reserved is what the unit needs without this get, whose record is gone
+abbrev pub log_without : TaskNo → Fetch → Bool → KeptLog → KeptLog
+log_without t fetch has_operations log = fallen_back t fetch.unit has_operations (with_filling t fetch.filling log)
+
+abbrev pub without_record : TaskNo → Fetch → Owned → Owned
+without_record t fetch p = at_log fetch.unit.member (log_without t fetch (has_operations fetch.unit.member t p.managers)) p
+
+-- the operation isn't in its unit
+abbrev pub undone : TaskNo → Fetch → Owned → Owned
+undone t fetch p = without_record t fetch (record p {
+  structures = with_structure fetch.terms.structure (offered_again fetch (structure_in fetch.terms.structure p.structures)) p.structures;
+  managers = with_dropped fetch.unit.member t p.managers;
+})
+
+-- ---- the answer of a get whose body was read
+
+-- the entry stands still in the epoch that the get was told
+abbrev pub is_found : Option Lost → Option Entry → Bool
+is_found (Some lost) found = false
+is_found None None = false
+is_found None (Some e) = true
+
+abbrev pub stands : Fetch → Owned → Bool
+stands fetch p = is_found (lost_of (structure_in fetch.terms.structure p.structures) (connection_of fetch)) (entry_at fetch.id (structure_in fetch.terms.structure p.structures).entries)
+
+abbrev pub after_deliver : TaskNo → Fetch → List ℕ → Owned → Bool → Next
+after_deliver t fetch room p true =
+    record { turn = Ended (Got (message_of fetch.terms.structure fetch.id fetch.head room)); phase = Check; parts = at_log fetch.unit.member (fallen_back t fetch.unit true) p }
+after_deliver t fetch room p false = refused StructureFailed Check (undone t fetch p)
+
+-- ---- the steps that may be refused at once
 
 -- a step that goes on to a phase, or is refused
 abbrev pub stepped : Result Phase Reason → Phase → Owned → Next

@@ -6,22 +6,23 @@ ghost use Rattle.qsg_logpage.specs.Reserved.{pages_for};
 ghost use Rattle.qsg_logs.specs.Kept.{log_in, need_of};
 ghost use Rattle.qsg_parts.specs.Owned.{owned, HasMember};
 ghost use Rattle.qsg_get.specs.declared.phases.Phase.TheVariants as phase;
-ghost use Rattle.qsg_get.specs.Steps.{fallen, unit_of, stepped, logged, need, with_operation, reply_of, after_check, after_connect, next_at};
+ghost use Rattle.qsg_get.specs.Steps.{fallen, unit_of, stepped, logged, need, with_operation, after_check, after_connect, use_of, after_body, after_take};
 ghost use Rattle.qsg_get.specs.Checking.{check_answer};
-ghost use Rattle.qsg_get.specs.Works.{IsOwn};
+ghost use Rattle.qsg_get.specs.Works.{IsSound};
 ghost use Rattle.qsg_get.specs.Needs.{MayReserve, MayCheck, IsReady};
-ghost use Rattle.qsg_lists.specs.Structures.{connect_answer};
+ghost use Rattle.qsg_lists.specs.Structures.{connect_answer, lost_of};
+ghost use Rattle.qsg_manager.specs.Getting.{found_in};
 ghost use Rattle.qsg_manager.specs.Facilities.{structure_in};
 ghost use Rattle.qsg_manager.specs.Storage.{task_at};
 
 use crate::checking::{Terms, check};
-use crate::phases::Phase;
+use crate::phases::{Fetch, Phase};
+use crate::reading::message;
 use qsg_disk::Disk;
-use qsg_lists::{Connection, Head, Selector};
-use qsg_logneed::{LONGEST_RECORD, got_bytes};
+use qsg_lists::{Connection, Selector};
+use qsg_logneed::{Filling, LONGEST_RECORD, got_bytes};
 use qsg_manager::{GetRefused, Managers, Taken, TakenBody, draw_name, get_entry};
-use qsg_msg::Message;
-use qsg_num::{Member, QueueName, StructNo, TaskNo, UnitName};
+use qsg_num::{Member, QueueName, TaskNo, UnitName};
 use qsg_parts::Parts;
 use qsg_requests::{Reason, Reply, Turn};
 use std::alloc::{AllocError, Global};
@@ -54,7 +55,7 @@ pub fn check_and_reserve<D: Disk>(
 ) -> Result<Phase, Reason>
     requires may { MayCheck member task (owned parts.old) }
     ensures next { stepped result phase.Check (owned parts.new) ≡ after_check member task (owned parts.old) (check_answer parts.old.objects queue.now (length (task_at member task parts.old.managers).ops)) }
-    ensures own { IfOk result (IsOwn member) }
+    ensures sound { IfOk result (IsSound member) }
 {
     let operations = parts.managers.operations(member, task);
     let terms = check(&parts.objects, queue, operations)?;
@@ -93,7 +94,7 @@ pub fn connect<D: Disk>(
 ) -> Result<Phase, Reason>
     requires ready { IsReady unit.member task unit terms (owned parts.old) }
     ensures next { stepped result (phase.Connect unit terms) (owned parts.new) ≡ after_connect unit.member task unit terms (owned parts.old) (connect_answer (structure_in terms.structure parts.old.structures)) }
-    ensures own { IfOk result (IsOwn unit.member) }
+    ensures sound { IfOk result (IsSound unit.member) }
 {
     match parts.structures.connect(terms.structure) {
         Ok(seen) => Ok(Phase::Take {
@@ -116,49 +117,66 @@ fn logged(persistent: bool) -> Option<u32>
     if persistent { Some(got_bytes()) } else { None }
 }
 
-/// Adds the record of a get to those of its unit, and makes what is reserved what they need.
+/// Adds the record of a get to those of its unit. Where the body stands in the entry, so that the get is answered, what
+/// is reserved becomes what they need.
 fn add_record<D: Disk>(
     parts: &mut Parts<D>,
     member: Member,
     task: TaskNo,
     unit: UnitName,
-    persistent: bool,
+    taken: &Taken,
 )
     requires member { HasMember member (owned parts.old) }
     requires log { MayReserve unit (log_in member parts.old.logs) }
     requires reserved { need member task (owned parts.old) ≤ pages_for unit (log_in member parts.old.logs).writer.reserved }
     requires before { need_of task None (log_in member parts.old.logs) ≤ pages_for unit (log_in member parts.old.logs).writer.reserved }
-    ensures { owned parts.new ≡ with_operation member task unit persistent (owned parts.old) }
+    ensures { owned parts.new ≡ with_operation member task unit taken.now.head.persistent taken.now.body (owned parts.old) }
 {
     parts.logs.kept(member);
-    parts.logs.add_record(member, task, logged(persistent));
-    parts.logs.fall_back(member, task, unit, true);
+    parts
+        .logs
+        .add_record(member, task, logged(taken.head.persistent));
+    match &taken.body {
+        TakenBody::Inside(_) => parts.logs.fall_back(member, task, unit, true),
+        TakenBody::Outside { .. } => {}
+    }
 }
 
-/// The answer of a get that took this entry.
-fn reply_of(structure: StructNo, taken: Taken) -> Reply
-    ensures { result ≡ reply_of structure taken }
+/// How a get goes on that took this entry: it ends with the message whose body stands in the entry.
+fn after_body(
+    unit: UnitName,
+    terms: Terms,
+    epoch: u32,
+    filling: Filling,
+    taken: Taken,
+) -> (Turn, Phase)
+    ensures next { result ≡ after_body unit terms epoch filling taken taken.body }
+    ensures sound { IsSound unit.member result.1 }
 {
     let Taken { id, head, body } = taken;
-    let Head {
-        queue,
-        priority,
-        persistent,
-        msg_id,
-        correl_id,
-    } = head;
     match body {
-        TakenBody::Inside(body) => Reply::Got(Message {
-            id,
-            structure,
-            queue,
-            priority,
-            persistent,
-            msg_id,
-            correl_id,
-            body,
-        }),
-        TakenBody::Outside { .. } => Reply::Refused(Reason::NotYet),
+        TakenBody::Inside(body) => {
+            let reply = message(terms.structure, id, head, body);
+            (Turn::Ended(reply), Phase::Take { unit, terms, epoch })
+        }
+        TakenBody::Outside {
+            owner,
+            blocks,
+            length,
+        } => {
+            let fetch = Fetch {
+                unit,
+                terms,
+                epoch,
+                id,
+                head,
+                owner,
+                blocks,
+                length,
+                filling,
+            };
+            (Turn::More, Phase::Look(fetch))
+        }
     }
 }
 
@@ -172,15 +190,17 @@ pub fn take<D: Disk>(
     unit: UnitName,
     terms: Terms,
     epoch: u32,
-) -> Result<Turn, AllocError>
+) -> Result<(Turn, Phase), AllocError>
     requires ready { IsReady unit.member task unit terms (owned parts.old) }
-    ensures next { IfOk result (λ turn. record { turn = turn; phase = phase.Take unit terms epoch; parts = owned parts.new } ≡ next_at unit.member task queue.now select.now (owned parts.old) (phase.Take unit terms epoch)) }
+    ensures next { IfOk result (λ done. record { turn = done.0; phase = done.1; parts = owned parts.new } ≡ after_take unit.member task unit terms epoch (owned parts.old) (lost_of (structure_in terms.structure parts.old.structures) (use_of terms epoch)) (found_in (use_of terms epoch) queue.now terms.order select.now parts.old.structures)) }
+    ensures sound { IfOk result (λ done. IsSound unit.member done.1) }
     ensures unchanged { OnErr result (parts.new ≡ parts.old) }
 {
     let connection = Connection {
         structure: terms.structure,
         epoch,
     };
+    let filling = parts.logs.filling(unit.member, task);
     let got = get_entry(
         alloc,
         &mut parts.structures,
@@ -192,20 +212,18 @@ pub fn take<D: Disk>(
         terms.order,
         select,
     );
-    let reply = match got {
+    let reason = match got {
         Ok(Some(taken)) => {
-            add_record(parts, unit.member, task, unit, taken.head.persistent);
-            reply_of(terms.structure, taken)
+            add_record(parts, unit.member, task, unit, &taken);
+            return Ok(after_body(unit, terms, epoch, filling, taken));
         }
-        Ok(None) => {
-            fall_back(parts, unit.member, task, unit);
-            Reply::Refused(Reason::NoMessage)
-        }
-        Err(GetRefused::Lost(_)) => {
-            fall_back(parts, unit.member, task, unit);
-            Reply::Refused(Reason::StructureFailed)
-        }
+        Ok(None) => Reason::NoMessage,
+        Err(GetRefused::Lost(_)) => Reason::StructureFailed,
         Err(GetRefused::NoMemory) => return Err(AllocError),
     };
-    Ok(Turn::Ended(reply))
+    fall_back(parts, unit.member, task, unit);
+    Ok((
+        Turn::Ended(Reply::Refused(reason)),
+        Phase::Take { unit, terms, epoch },
+    ))
 }

@@ -1,6 +1,7 @@
-//! The check of a get, at each of its refusals, and gets from a structure in which one message waits.
+//! The check of a get, at each of its refusals, and gets from a structure in which one message waits, with its body in
+//! the entry or in a data set.
 
-ghost use Rattle.std.specs.Prelude.{◌≡◌, ◌≤◌, true, IfOk, IfSome, None, length};
+ghost use Rattle.std.specs.Prelude.{◌≡◌, ◌≤◌, true, IfOk, IfSome, Some, None, length};
 ghost use Rattle.qsg_num.specs.declared.seats.Member.TheVariants as member;
 ghost use Rattle.qsg_num.specs.declared.seats.StructNo.TheVariants as structure;
 ghost use Rattle.qsg_num.specs.declared.seats.TaskNo.TheVariants as task;
@@ -10,22 +11,34 @@ ghost use Rattle.qsg_manager.specs.Storage.{manager_in, task_at};
 ghost use Rattle.qsg_logs.specs.Kept.{log_in};
 ghost use Rattle.qsg_logs.specs.Writers.{new_writer};
 ghost use Rattle.qsg_parts.specs.Owned.{owned};
-ghost use Rattle.qsg_get.specs.Needs.{MayStep, MayPass};
+ghost use Rattle.qsg_disk_mem.specs.Mem.{cells_in};
+ghost use Rattle.qsg_datasets.specs.Kept.{HasSet, set_in};
+ghost use Rattle.qsg_datasets.specs.Calls.{IsStorageSame};
+ghost use Rattle.qsg_bodies.specs.Using.{with_kept};
+ghost use Rattle.qsg_blocks.specs.Laws.{AreWithin};
+ghost use Rattle.qsg_requests.specs.declared.replies.Turn.TheVariants.{More};
+ghost use Rattle.qsg_get.specs.Needs.{IsReadable, IsReadableAt, MayStep, MayPass};
 
-use crate::{GetWork, Terms, a_get_that_goes_on_may_go_on, check};
-use qsg_datasets::DataSets;
+use crate::{
+    Fetch, GetWork, Phase, Terms, a_get_that_goes_on_may_go_on, a_step_of_a_get_keeps_data_sets,
+    check, what_a_get_needs_stays,
+};
+use qsg_bodies::blocks_for;
+use qsg_dataset::DataSet;
+use qsg_datasets::{DataSets, MemberDataSet, MemberDataSets};
+use qsg_disk::Disk;
 use qsg_disk_mem::MemDisk;
-use qsg_lists::{Connection, Head, Place, Selector, Structure};
+use qsg_lists::{Connection, Head, Mark, Place, Selector, Structure};
 use qsg_logs::{Logs, MemberLog};
 use qsg_manager::{Manager, Managers, Structures, Tasks};
 use qsg_model::History;
 use qsg_num::{
-    Bytes, Delivery, Incarnation, InlineBody, Member, Name, Priority, QueueName, Rules, StructNo,
-    TaskNo, UnitName,
+    Block, Blocks, Bytes, Delivery, EntryId, Incarnation, InlineBody, LONGEST_BODY, Member, Name,
+    Priority, QueueName, Rules, StructNo, TaskNo, UnitName,
 };
 use qsg_objects::{CfstructDef, Definition, Objects, QlocalDef};
 use qsg_parts::Parts;
-use qsg_repo::Repo;
+use qsg_repo::{Access, Repo, Smds, Status};
 use qsg_requests::{Reason, Reply, Turn};
 use std::alloc::{AllocError, Global};
 use std::test::*;
@@ -101,8 +114,63 @@ const BEFORE: UnitName = UnitName {
     seq: 0,
 };
 
-/// A structure in which the message `hello` of queue Q1 waits, with that message id.
-fn structures(alloc: Global, msg_id: [u8; 24]) -> Result<Structures, Fail>
+/// Bytes of a block, and of a body that takes 13 of them.
+const BLOCK: usize = 8_192;
+
+const LONG: usize = 100_000;
+
+/// Where the body of the message stands.
+#[derive(Clone, Copy, Debug, PartialEq, Eq)]
+enum Where {
+    /// In the entry: `hello`.
+    Inside,
+    /// In blocks of this member's data set: `LONG` bytes.
+    Outside(Member),
+}
+
+/// A group in which one message waits.
+#[derive(Clone, Copy)]
+struct World<'a> {
+    place: Where,
+    /// The access of the second member's data set.
+    access: Access,
+    /// The calls on the data sets' devices that fail. Writing the body takes two.
+    failing: &'a [u32],
+    select: Selector,
+}
+
+const ANY: Selector = Selector {
+    msg_id: None,
+    correl_id: None,
+};
+
+/// Seven blocks at the end of a data set, and then six at its beginning.
+fn blocks(alloc: Global) -> Result<Blocks, AllocError> {
+    let mut items = Vec::new(alloc);
+    for number in (9..16).chain(0..6) {
+        items.push(Block { number })?;
+    }
+    Ok(Blocks::from_vec(items))
+}
+
+/// Bytes that differ from block to block, from the k-th of a body on to before the n-th.
+fn bytes(alloc: Global, k: usize, n: usize) -> Result<Vec<u8>, AllocError> {
+    (k..n).map(|k| (k % 251) as u8).collect(alloc)
+}
+
+fn place(alloc: Global, place: Where) -> Result<Place, Fail> {
+    Ok(match place {
+        Where::Inside => Place::Inline(InlineBody::from_slice(alloc, b"hello")?),
+        Where::Outside(owner) => Place::Offloaded {
+            owner,
+            blocks: blocks(alloc)?,
+            length: LONG as u32,
+        },
+    })
+}
+
+/// A structure in which such a message of queue Q1 waits, with message id 1.
+fn structures(alloc: Global, at: Where) -> Result<Structures, Fail>
     ensures { IfOk result (λ s. length s ≡ 1) }
 {
     let mut structure = Structure::new(alloc, StructNo::One, 10);
@@ -110,10 +178,10 @@ fn structures(alloc: Global, msg_id: [u8; 24]) -> Result<Structures, Fail>
         queue: name(alloc, "Q1")?,
         priority: Priority::Four,
         persistent: true,
-        msg_id,
+        msg_id: [1; 24],
         correl_id: [0; 24],
     };
-    let place = Place::Inline(InlineBody::from_slice(alloc, b"hello")?);
+    let place = place(alloc, at)?;
     if let Ok(id) = structure.write_entry(NOW, BEFORE, head, place, 1) {
         let _ = structure.settle(NOW, id, BEFORE, true);
     }
@@ -122,9 +190,9 @@ fn structures(alloc: Global, msg_id: [u8; 24]) -> Result<Structures, Fail>
     Ok(Structures::from_vec(items))
 }
 
-/// One member that is up.
+/// Two members that are up.
 fn managers(alloc: Global) -> Result<Managers, Fail>
-    ensures one { IfOk result (λ m. length m ≡ 1) }
+    ensures two { IfOk result (λ m. length m ≡ 2) }
     ensures next { IfOk result (λ m. (manager_in member.One m).next ≡ 1) }
     ensures free { IfOk result (λ m. task_at member.One task.Two m ≡ idle) }
 {
@@ -135,10 +203,16 @@ fn managers(alloc: Global) -> Result<Managers, Fail>
         next: 1,
         tasks: Tasks::new(alloc)?,
     })?;
+    items.push(Manager {
+        up: true,
+        incarnation: Incarnation { number: 2 },
+        next: 1,
+        tasks: Tasks::new(alloc)?,
+    })?;
     Ok(Managers::from_vec(items))
 }
 
-/// Its log, of so many pages.
+/// The log of the first, of two pages.
 fn logs(alloc: Global) -> Result<Logs<MemDisk>, Fail>
     ensures one { IfOk result (λ l. length l ≡ 1) }
     ensures writer { IfOk result (λ l. (log_in member.One l).writer ≡ new_writer 2) }
@@ -148,17 +222,82 @@ fn logs(alloc: Global) -> Result<Logs<MemDisk>, Fail>
     Ok(Logs::from_vec(items))
 }
 
-/// Such a group, and a get of queue Q1 by the second task of its member.
-fn group(alloc: Global, select: Selector) -> Result<Option<(Parts<MemDisk>, GetWork)>, Fail>
+/// Room for a header and 16 blocks. Calls of these numbers fail.
+fn device(alloc: Global, failing: &[u32]) -> Result<MemDisk, Fail>
+    ensures { IfOk result (λ device. length (cells_in device) ≡ 135168) }
+{
+    let failing = Vec::from_slice(alloc, failing)?;
+    Ok(MemDisk::new(alloc, 135_168, failing)?)
+}
+
+/// Writes a body into its blocks: so much of it at the end of the data set, and the rest at its beginning.
+fn write(device: &mut MemDisk, front: &[u8], rest: &[u8])
+    requires device { length (cells_in device.old) ≡ 135168 }
+    requires front { length front.now ≡ 57344 }
+    requires rest { length rest.now ≡ 42656 }
+    ensures { length (cells_in device.new) ≡ 135168 }
+{
+    let _ = device.write(77_824, front);
+    let _ = device.write(4_096, rest);
+}
+
+/// The data sets of a member for the one structure, with the body in it.
+fn data_sets(
+    alloc: Global,
+    failing: &[u32],
+    front: &[u8],
+    rest: &[u8],
+) -> Result<MemberDataSets<MemDisk>, Fail>
+    requires front { length front.now ≡ 57344 }
+    requires rest { length rest.now ≡ 42656 }
+    ensures { IfOk result (λ sets. length sets ≡ 1) }
+{
+    let mut device = device(alloc, failing)?;
+    write(&mut device, front, rest);
+    let mut sets = Vec::new(alloc);
+    sets.push(MemberDataSet::new(alloc, DataSet::new(device, BLOCK as u32))?)?;
+    Ok(MemberDataSets::from_vec(sets))
+}
+
+/// Those of both members.
+fn all_data_sets(alloc: Global, failing: &[u32]) -> Result<Option<DataSets<MemDisk>>, Fail>
+    ensures one { IfOk result (λ found. IfSome found (HasSet member.One structure.One)) }
+    ensures two { IfOk result (λ found. IfSome found (HasSet member.Two structure.One)) }
+{
+    let front = bytes(alloc, 0, 57_344)?;
+    let rest = bytes(alloc, 57_344, LONG)?;
+    if front.len() != 57_344 || rest.len() != 42_656 {
+        return Ok(None);
+    }
+    let mut members = Vec::new(alloc);
+    members.push(data_sets(alloc, failing, &front, &rest)?)?;
+    members.push(data_sets(alloc, failing, &front, &rest)?)?;
+    Ok(Some(DataSets::from_vec(members)))
+}
+
+/// Such a group, and a get of queue Q1 by the second task of its first member.
+fn group(alloc: Global, world: &World<'_>) -> Result<Option<(Parts<MemDisk>, GetWork)>, Fail>
+    ensures own { IfOk result (λ found. IfSome found (λ r. r.1.member ≡ member.One)) }
     ensures may { IfOk result (λ found. IfSome found (λ r. MayStep r.1 (owned r.0))) }
     ensures pass { IfOk result (λ found. IfSome found (λ r. MayPass r.1 (owned r.0))) }
+    ensures one { IfOk result (λ found. IfSome found (λ r. HasSet member.One structure.One r.0.datasets)) }
+    ensures two { IfOk result (λ found. IfSome found (λ r. HasSet member.Two structure.One r.0.datasets)) }
 {
+    let Some(datasets) = all_data_sets(alloc, world.failing)? else {
+        return Ok(None);
+    };
+    let mut repo = Repo::new(alloc, 2, 1, [false; 4], 1)?;
+    let smds = Smds {
+        access: world.access,
+        status: Status::Active,
+    };
+    repo.set_smds(Member::Two, StructNo::One, smds);
     let parts = Parts {
-        structures: structures(alloc, [1; 24])?,
+        structures: structures(alloc, world.place)?,
         managers: managers(alloc)?,
         logs: logs(alloc)?,
-        datasets: DataSets::from_vec(Vec::new(alloc)),
-        repo: Repo::new(alloc, 1, 1, [false; 4], 1)?,
+        datasets,
+        repo,
         objects: objects(alloc)?,
         history: History::new(alloc),
     };
@@ -175,60 +314,333 @@ fn group(alloc: Global, select: Selector) -> Result<Option<(Parts<MemDisk>, GetW
     {
         return Ok(None);
     }
-    let work = GetWork::begin(Member::One, TaskNo::Two, queue, select);
+    let work = GetWork::begin(Member::One, TaskNo::Two, queue, world.select);
     Ok(Some((parts, work)))
 }
 
-/// Makes a step. Whether the get goes on.
-fn goes_on(alloc: Global, parts: &mut Parts<MemDisk>, work: &mut GetWork) -> bool
-    requires may { MayStep work.old (owned parts.old) }
-    requires pass { MayPass work.old (owned parts.old) }
-    ensures may { result ≡ true → MayStep work.new (owned parts.new) }
-    ensures pass { result ≡ true → MayPass work.new (owned parts.new) }
+/// Whether the body that a get is to look at can be read.
+fn is_readable(parts: &Parts<MemDisk>, phase: &Phase) -> bool
+    requires one { HasSet member.One structure.One parts.now.datasets }
+    requires two { HasSet member.Two structure.One parts.now.datasets }
+    ensures { result ≡ true → IsReadableAt phase.now (owned parts.now) }
 {
-    a_get_that_goes_on_may_go_on();
-    matches!(work.step(alloc, parts), Ok(Turn::More))
+    match phase {
+        Phase::Look(fetch) => can_read(parts, fetch),
+        _ => true,
+    }
 }
 
-/// How such a get ends, and how many operations its unit has then.
-fn ending(alloc: Global, msg_id: Option<[u8; 24]>) -> Result<Option<(Turn, usize)>, Fail> {
-    let select = Selector {
-        msg_id,
-        correl_id: None,
+/// Whether the body of a message can be read.
+fn can_read(parts: &Parts<MemDisk>, fetch: &Fetch) -> bool
+    requires one { HasSet member.One structure.One parts.now.datasets }
+    requires two { HasSet member.Two structure.One parts.now.datasets }
+    ensures { result ≡ true → IsReadable fetch.now (owned parts.now) }
+{
+    let set = match (fetch.owner, fetch.terms.structure) {
+        (Member::One, StructNo::One) => parts.datasets.set(Member::One, StructNo::One),
+        (Member::Two, StructNo::One) => parts.datasets.set(Member::Two, StructNo::One),
+        _ => return false,
     };
-    let Some((mut parts, mut work)) = group(alloc, select)? else {
+    set.kept();
+    fetch.length <= LONGEST_BODY
+        && fetch.blocks.len() == blocks_for(set.block_size(), fetch.length) as usize
+        && are_within(set.blocks(), fetch.blocks.as_slice())
+}
+
+/// Whether the numbers of blocks are below this one.
+fn are_within(most: u32, blocks: &[Block]) -> bool
+    ensures { result ≡ true → AreWithin most blocks.now }
+{
+    blocks.iter().all(|b| b.number < most)
+}
+
+/// Makes a step; None where memory is wanting.
+fn step(alloc: Global, parts: &mut Parts<MemDisk>, work: &mut GetWork) -> Option<Turn>
+    requires own { work.old.member ≡ member.One }
+    requires may { MayStep work.old (owned parts.old) }
+    requires pass { MayPass work.old (owned parts.old) }
+    requires one { HasSet member.One structure.One parts.old.datasets }
+    requires two { HasSet member.Two structure.One parts.old.datasets }
+    ensures own { work.new.member ≡ member.One }
+    ensures may { result ≡ Some More → MayStep work.new (owned parts.new) }
+    ensures pass { result ≡ Some More → MayPass work.new (owned parts.new) }
+    ensures one { HasSet member.One structure.One parts.new.datasets }
+    ensures two { HasSet member.Two structure.One parts.new.datasets }
+{
+    a_get_that_goes_on_may_go_on();
+    a_step_of_a_get_keeps_data_sets();
+    work.kept();
+    let Ok(turn) = work.step(alloc, parts) else {
+        return None;
+    };
+    if parts.logs.len() == 0 || !is_readable(parts, work.phase()) {
+        return None;
+    }
+    parts.logs.kept(Member::One);
+    Some(turn)
+}
+
+/// Makes steps until the get is answered: the steps, and the answer.
+fn answer(alloc: Global, parts: &mut Parts<MemDisk>, work: &mut GetWork) -> Option<(usize, Reply)>
+    requires own { work.old.member ≡ member.One }
+    requires may { MayStep work.old (owned parts.old) }
+    requires pass { MayPass work.old (owned parts.old) }
+    requires one { HasSet member.One structure.One parts.old.datasets }
+    requires two { HasSet member.Two structure.One parts.old.datasets }
+{
+    for k in 1..30 {
+        match step(alloc, parts, work)? {
+            Turn::More => {}
+            Turn::Ended(reply) => return Some((k, reply)),
+            Turn::Waits(_) => return None,
+        }
+    }
+    None
+}
+
+/// How a get ended.
+#[derive(Clone, Copy, Debug, PartialEq, Eq)]
+enum Ending {
+    /// With the message, with the right body or not.
+    Got(bool),
+    /// It was refused.
+    Refused(Reason),
+    /// Otherwise.
+    Other,
+}
+
+/// What a get leaves.
+#[derive(Clone, Copy, Debug, PartialEq, Eq)]
+struct Left {
+    steps: usize,
+    ending: Ending,
+    /// The mark of the entry; None where there is no entry.
+    mark: Option<Mark>,
+    /// The operations of the unit.
+    operations: usize,
+    /// Pages that the unit needs with its commit.
+    need: u32,
+}
+
+/// How a get in such a world ends, and what it leaves.
+fn leaves(alloc: Global, world: &World<'_>) -> Result<Option<Left>, Fail> {
+    let expected = match world.place {
+        Where::Inside => Vec::from_slice(alloc, b"hello")?,
+        Where::Outside(_) => bytes(alloc, 0, LONG)?,
+    };
+    let Some((mut parts, mut work)) = group(alloc, world)? else {
         return Ok(None);
     };
-    if !goes_on(alloc, &mut parts, &mut work) || !goes_on(alloc, &mut parts, &mut work) {
+    let Some((steps, reply)) = answer(alloc, &mut parts, &mut work) else {
+        return Ok(None);
+    };
+    if parts.managers.len() == 0 || parts.structures.len() == 0 || parts.logs.len() == 0 {
         return Ok(None);
     }
-    let turn = work.step(alloc, &mut parts)?;
-    if parts.managers.len() == 0 {
-        return Ok(None);
+    let ending = match reply {
+        Reply::Got(message) => Ending::Got(message.body.as_slice() == expected.as_slice()),
+        Reply::Refused(reason) => Ending::Refused(reason),
+        _ => Ending::Other,
+    };
+    let mark = match parts.structures.entry_at(NOW, EntryId { number: 1 }) {
+        Ok(Some(entry)) => Some(entry.mark),
+        _ => None,
+    };
+    Ok(Some(Left {
+        steps,
+        ending,
+        mark,
+        operations: parts.managers.operations(Member::One, TaskNo::Two),
+        need: parts.logs.need(Member::One, TaskNo::Two, None),
+    }))
+}
+
+/// A world in which the body stands there, all may be read, and no call fails.
+fn sound(place: Where) -> World<'static> {
+    World {
+        place,
+        access: Access::Enabled,
+        failing: &[],
+        select: ANY,
     }
-    let operations = parts.managers.operations(Member::One, TaskNo::Two);
-    Ok(Some((turn, operations)))
+}
+
+const UNIT: UnitName = UnitName {
+    member: Member::One,
+    incarnation: Incarnation { number: 1 },
+    seq: 1,
+};
+
+/// The message was got after so many steps.
+fn got(steps: usize) -> Option<Left> {
+    Some(Left {
+        steps,
+        ending: Ending::Got(true),
+        mark: Some(Mark::GotBy(UNIT)),
+        operations: 1,
+        need: 1,
+    })
+}
+
+/// The get was refused after so many steps, and the message is on offer.
+fn refused(steps: usize, reason: Reason) -> Option<Left> {
+    Some(Left {
+        steps,
+        ending: Ending::Refused(reason),
+        mark: Some(Mark::Visible),
+        operations: 0,
+        need: 1,
+    })
+}
+
+/// Others remove the entry, and clean it up.
+fn remove(parts: &mut Parts<MemDisk>)
+    requires one { length parts.old.structures ≡ 1 }
+    ensures same { length parts.new.structures ≡ length parts.old.structures }
+    ensures others { owned parts.new ≡ record (owned parts.old) { structures = parts.new.structures } }
+{
+    let id = EntryId { number: 1 };
+    let _ = parts.structures.settle(NOW, id, UNIT, true);
+    if parts.structures.len() > 0 {
+        let _ = parts.structures.forget(NOW, id);
+    }
+}
+
+/// Others use a block of the second member's data set again.
+fn use_again(parts: &mut Parts<MemDisk>)
+    requires two { HasSet member.Two structure.One parts.old.datasets }
+    ensures same { IsStorageSame (set_in member.Two structure.One parts.old.datasets) (set_in member.Two structure.One parts.new.datasets) }
+    ensures others { owned parts.new ≡ with_kept member.Two structure.One (set_in member.Two structure.One parts.new.datasets) (owned parts.old) }
+{
+    let set = parts.datasets.set_mut(Member::Two, StructNo::One);
+    set.kept();
+    let _ = set.write_block(Block { number: 0 }, b"x");
+}
+
+/// Others do both, while a get is in progress.
+fn go_between(parts: &mut Parts<MemDisk>, work: &GetWork)
+    requires structures { length parts.old.structures ≡ 1 }
+    requires may { MayStep work.now (owned parts.old) }
+    requires one { HasSet member.One structure.One parts.old.datasets }
+    requires two { HasSet member.Two structure.One parts.old.datasets }
+    ensures may { MayStep work.now (owned parts.new) }
+    ensures one { HasSet member.One structure.One parts.new.datasets }
+    ensures two { HasSet member.Two structure.One parts.new.datasets }
+{
+    let _phase = work.phase();
+    what_a_get_needs_stays();
+    remove(parts);
+    use_again(parts);
 }
 
 #[test]
-fn a_message_is_got(rt: HostRuntime) -> Result<(), Fail> {
-    match ending(rt.alloc(), None)? {
-        Some((Turn::Ended(Reply::Got(message)), 1)) => {
-            assert_eq!(rt; message.body.as_slice(), b"hello".as_slice());
-        }
-        _ => assert!(rt; false),
-    }
+fn messages_are_got(rt: HostRuntime) -> Result<(), Fail> {
+    let alloc = rt.alloc();
+    assert_eq!(rt; leaves(alloc, &sound(Where::Inside))?, got(3));
+    let own = Where::Outside(Member::One);
+    assert_eq!(rt; leaves(alloc, &sound(own))?, got(18));
+    let other = Where::Outside(Member::Two);
+    assert_eq!(rt; leaves(alloc, &sound(other))?, got(18));
     Ok(())
 }
 
 #[test]
 fn no_message_has_another_id(rt: HostRuntime) -> Result<(), Fail> {
-    let ended = ending(rt.alloc(), Some([2; 24]))?;
-    assert!(rt;
-        matches!(
-            &ended,
-            Some((Turn::Ended(Reply::Refused(Reason::NoMessage)), 0))
-        )
-    );
+    let select = Selector {
+        msg_id: Some([2; 24]),
+        correl_id: None,
+    };
+    let world = World {
+        select,
+        ..sound(Where::Inside)
+    };
+    let none = refused(3, Reason::NoMessage);
+    assert_eq!(rt; leaves(rt.alloc(), &world)?, none);
+    Ok(())
+}
+
+#[test]
+fn a_body_is_read_where_its_owner_may(rt: HostRuntime) -> Result<(), Fail> {
+    let alloc = rt.alloc();
+    for access in [Access::Suspended, Access::Disabled] {
+        let world = World {
+            access,
+            ..sound(Where::Outside(Member::Two))
+        };
+        let fault = refused(5, Reason::DataSetFault);
+        assert_eq!(rt; leaves(alloc, &world)?, fault);
+        let world = World {
+            access,
+            ..sound(Where::Outside(Member::One))
+        };
+        assert_eq!(rt; leaves(alloc, &world)?, got(18));
+    }
+    Ok(())
+}
+
+#[test]
+fn reads_fail(rt: HostRuntime) -> Result<(), Fail> {
+    for k in 0..13_u8 {
+        // Two writes come before.
+        let failing = [3 + u32::from(k)];
+        let world = World {
+            failing: &failing,
+            ..sound(Where::Outside(Member::Two))
+        };
+        // The check, the connection, the entry, the look, the reads up to this one, and the mark that comes off.
+        let fault = refused(6 + usize::from(k), Reason::DataSetFault);
+        assert_eq!(rt; leaves(rt.alloc(), &world)?, fault, "read {k}");
+    }
+    Ok(())
+}
+
+/// Makes so many steps, and tells whether the get goes on after each.
+fn goes_on(alloc: Global, parts: &mut Parts<MemDisk>, work: &mut GetWork, steps: usize) -> bool
+    requires own { work.old.member ≡ member.One }
+    requires may { MayStep work.old (owned parts.old) }
+    requires pass { MayPass work.old (owned parts.old) }
+    requires one { HasSet member.One structure.One parts.old.datasets }
+    requires two { HasSet member.Two structure.One parts.old.datasets }
+    ensures own { work.new.member ≡ member.One }
+    ensures may { result ≡ true → MayStep work.new (owned parts.new) }
+    ensures pass { result ≡ true → MayPass work.new (owned parts.new) }
+    ensures one { HasSet member.One structure.One parts.new.datasets }
+    ensures two { HasSet member.Two structure.One parts.new.datasets }
+{
+    for _ in 0..steps {
+        if !matches!(step(alloc, parts, work), Some(Turn::More)) {
+            return false;
+        }
+    }
+    true
+}
+
+/// How a get ends whose entry is removed after so many steps, and how many operations its unit has then.
+fn ends_without_entry(alloc: Global, steps: usize) -> Result<Option<(Reply, usize)>, Fail> {
+    let world = sound(Where::Outside(Member::Two));
+    let Some((mut parts, mut work)) = group(alloc, &world)? else {
+        return Ok(None);
+    };
+    if !goes_on(alloc, &mut parts, &mut work, steps) || parts.structures.len() != 1 {
+        return Ok(None);
+    }
+    go_between(&mut parts, &work);
+    let Some((_, reply)) = answer(alloc, &mut parts, &mut work) else {
+        return Ok(None);
+    };
+    if parts.managers.len() == 0 {
+        return Ok(None);
+    }
+    let operations = parts.managers.operations(Member::One, TaskNo::Two);
+    Ok(Some((reply, operations)))
+}
+
+#[test]
+fn a_removed_entry_is_not_answered_with(rt: HostRuntime) -> Result<(), Fail> {
+    // Before the first read, between two reads, and after the last one.
+    for steps in [4, 9, 17] {
+        let ended = ends_without_entry(rt.alloc(), steps)?;
+        assert!(rt; matches!(&ended, Some((Reply::Refused(Reason::StructureFailed), 0))));
+    }
     Ok(())
 }

@@ -1,11 +1,16 @@
 //! A get in progress.
 
-ghost use Rattle.std.specs.Prelude.{◌≡◌, IfOk, OnErr};
+ghost use Rattle.std.specs.Prelude.{◌≡◌, ◌≤◌, IfOk, Ok};
+ghost use Rattle.qsg_num.specs.Seats.{member_number};
 ghost use Rattle.qsg_get.specs.declared.phases.Phase.TheVariants as phase;
-ghost use Rattle.qsg_parts.specs.Owned.{Owned};
-ghost use Rattle.qsg_get.specs.Steps.{stepped, phase_after};
+ghost use Rattle.qsg_parts.specs.Owned.{Owned, owned};
+ghost use Rattle.qsg_get.specs.Works.{IsSound};
+ghost use Rattle.qsg_get.specs.Steps.{stepped};
+ghost use Rattle.qsg_get.specs.Next.{NextAt};
+ghost use Rattle.qsg_get.specs.Needs.{MayStepAt};
 
 use crate::phases::Phase;
+use crate::reading::{deliver, give_up, look, read};
 use crate::steps::{check_and_reserve, connect, take};
 use qsg_disk::Disk;
 use qsg_lists::Selector;
@@ -14,18 +19,58 @@ use qsg_parts::Parts;
 use qsg_requests::{Reason, Reply, Turn};
 use std::alloc::{AllocError, Global};
 use std::marker::Model;
+use std::mem;
 
-/// Goes on to a phase, unless the request is refused.
-fn advance(phase: &mut Phase, answer: Result<Phase, Reason>) -> Turn
-    ensures next { (p : Owned) → record { turn = result; phase = phase.new; parts = p } ≡ stepped answer phase.old p }
-    ensures phase { phase.new ≡ phase_after answer phase.old }
+/// Goes on to a phase, unless the request is refused at this one.
+fn advance(answer: Result<Phase, Reason>, at: Phase) -> (Turn, Phase)
+    ensures next { (p : Owned) → record { turn = result.0; phase = result.1; parts = p } ≡ stepped answer at p }
+    ensures sound { (m : Member) → IsSound m at → IfOk answer (IsSound m) → IsSound m result.1 }
 {
     match answer {
-        Ok(next) => {
-            *phase = next;
-            Turn::More
+        Ok(next) => (Turn::More, next),
+        Err(reason) => (Turn::Ended(Reply::Refused(reason)), at),
+    }
+}
+
+/// Makes the step of a phase.
+fn step_at<D: Disk>(
+    alloc: Global,
+    parts: &mut Parts<D>,
+    member: Member,
+    task: TaskNo,
+    queue: &QueueName,
+    select: &Selector,
+    phase: Phase,
+) -> (Result<Turn, AllocError>, Phase)
+    requires may { MayStepAt member task (owned parts.old) phase }
+    requires sound { IsSound member phase }
+    ensures next { NextAt member task queue.now select.now phase (owned parts.old) result.0 result.1 (owned parts.new) }
+    ensures sound { IsSound member result.1 }
+{
+    match phase {
+        Phase::Check => {
+            let answer = check_and_reserve(alloc, parts, member, task, queue.as_str());
+            let (turn, next) = advance(answer, Phase::Check);
+            (Ok(turn), next)
         }
-        Err(reason) => Turn::Ended(Reply::Refused(reason)),
+        Phase::Connect { unit, terms } => {
+            let answer = connect(parts, task, unit, terms);
+            let (turn, next) = advance(answer, Phase::Connect { unit, terms });
+            (Ok(turn), next)
+        }
+        Phase::Take { unit, terms, epoch } => {
+            match take(alloc, parts, task, queue, select, unit, terms, epoch) {
+                Ok((turn, next)) => (Ok(turn), next),
+                Err(e) => (Err(e), Phase::Take { unit, terms, epoch }),
+            }
+        }
+        Phase::Look(fetch) => look(alloc, parts, fetch),
+        Phase::Read { fetch, room, at } => (Ok(Turn::More), read(parts, fetch, room, at)),
+        Phase::Deliver { fetch, room } => {
+            let reply = deliver(alloc, parts, task, fetch, room);
+            (Ok(Turn::Ended(reply)), Phase::Check)
+        }
+        Phase::Undo(fetch) => (Ok(give_up(alloc, parts, task, &fetch)), Phase::Check),
     }
 }
 
@@ -40,19 +85,19 @@ pub struct GetWork {
 }
 
 impl Model for GetWork {
-    ghost use Rattle.qsg_get.specs.Works.{Work, IsOwn};
+    ghost use Rattle.qsg_get.specs.Works.{Work, IsSound};
 
     ghost Value = { Work };
 
     ghost view = { λ w. record { member = w.member; task = w.task; queue = w.queue; select = w.select; phase = w.phase } };
 
-    ghost invariant = { λ w. IsOwn w.member w.phase };
+    ghost invariant = { λ w. IsSound w.member w.phase };
 }
 
 impl GetWork {
     ghost use Rattle.qsg_parts.specs.Owned.{owned};
-    ghost use Rattle.qsg_get.specs.Steps.{next_get};
-    ghost use Rattle.qsg_get.specs.Works.{IsOwn};
+    ghost use Rattle.qsg_get.specs.Works.{IsSound};
+    ghost use Rattle.qsg_get.specs.Next.{NextGet};
     ghost use Rattle.qsg_get.specs.Needs.{MayStep};
 
     /// A get by a task of a member, before its first step. Takes no memory.
@@ -68,46 +113,37 @@ impl GetWork {
         }
     }
 
-    /// What every get keeps: its unit is of its member.
+    /// What every get keeps: its unit is of its member, and the room of a body is as long as the body.
     pub fn kept(&self)
-        ensures { IsOwn self.now.member self.now.phase }
+        ensures { IsSound self.now.member self.now.phase }
     {
         let _phase = &self.phase;
     }
 
-    /// Makes the next step. A step that ends the get leaves the work as it was; it isn't stepped again.
+    /// How far it has come.
+    pub fn phase(&self) -> &Phase
+        ensures { result.now ≡ self.now.phase }
+    {
+        &self.phase
+    }
+
+    /// Makes the next step. Want of memory leaves the work and the parts as they were. A get that was answered isn't
+    /// stepped again.
     pub fn step<D: Disk>(&mut self, alloc: Global, parts: &mut Parts<D>) -> Result<Turn, AllocError>
         requires may { MayStep self.old (owned parts.old) }
-        ensures next { IfOk result (λ turn. record { turn = turn; phase = self.new.phase; parts = owned parts.new } ≡ next_get self.old (owned parts.old)) }
-        ensures same { self.new ≡ record self.old { phase = self.new.phase } }
-        ensures unchanged { OnErr result (parts.new ≡ parts.old) }
-        ensures stays { OnErr result (self.new ≡ self.old) }
+        ensures next { NextGet self.old (owned parts.old) result self.new (owned parts.new) }
     {
-        match self.phase {
-            Phase::Check => {
-                let answer = check_and_reserve(
-                    alloc,
-                    parts,
-                    self.member,
-                    self.task,
-                    self.queue.as_str(),
-                );
-                Ok(advance(&mut self.phase, answer))
-            }
-            Phase::Connect { unit, terms } => {
-                let answer = connect(parts, self.task, unit, terms);
-                Ok(advance(&mut self.phase, answer))
-            }
-            Phase::Take { unit, terms, epoch } => take(
-                alloc,
-                parts,
-                self.task,
-                &self.queue,
-                &self.select,
-                unit,
-                terms,
-                epoch,
-            ),
-        }
+        let phase = mem::replace(&mut self.phase, Phase::Check);
+        let (result, next) = step_at(
+            alloc,
+            parts,
+            self.member,
+            self.task,
+            &self.queue,
+            &self.select,
+            phase,
+        );
+        self.phase = next;
+        result
     }
 }

@@ -47,11 +47,18 @@ use Rattle.qsg_logs.proofs.Holding.{at_first}
 use Rattle.qsg_logs.proofs.Owners.{all_weaker}
 use Rattle.qsg_parts.specs.Owned.{Owned, HasMember}
 use Rattle.qsg_crash.specs.Crashes.{latched_unit, committed_by, crashed, IsCrash}
-use Rattle.qsg_steady.specs.Steady.{pages_named, tasks_of, IsRunOf, TellsFrom, IsTold, IsSeen, IsBehind, IsLive, is_up_life, IsListed, IsOver, IsWithin, AreTelling, IsLawful, written_by, IsSteady}
+use Rattle.qsg_steady.specs.Steady.{pages_named, tasks_of, IsRunOf, TellsFrom, IsTold, IsSeen, IsBehind, IsLive, is_up_life, IsListed, IsOver, IsWithin, AreTelling, outside_in, AreFitting, IsLawful, written_by, IsSteady}
 use Rattle.qsg_steady.proofs.Acting.{seen_of}
 use Rattle.qsg_steady.proofs.Moving.{by_member, seen_same}
 use Rattle.qsg_steady.proofs.Places.{log_same, log_other, latch_some, latch_none, written_none, writing_with}
 use Rattle.qsg_steady.proofs.Sets.{sets_moved}
+use Rattle.qsg_steady.specs.Standing.{MovesBy, MovesMember}
+use Rattle.qsg_steady.proofs.Grounding.{fitting_moved, block_laws_moved, bodies_moved, sets_told, by_member_change, alike, has_set}
+use Rattle.qsg_steady.proofs.Members.{crash_moves}
+use Rattle.qsg_datasets.proofs.Lookups.{cut_here, set_of_member}
+use Rattle.qsg_blocks.specs.State.{AreTold}
+use Rattle.qsg_blocks.specs.Changes.{Change as BlocksChange}
+use Rattle.qsg_bodies.specs.Grounds.{ground_of}
 use Rattle.qsg_steady.proofs.Starts.{pushed_later}
 use Rattle.qsg_lives.proofs.Downing.{down, idle_in, down_here, down_other, down_length, down_tasks, down_seats, down_idles, ended_down, latched_one, latched_few}
 use Rattle.qsg_lives.proofs.Incarnations.{same_life, life_is, fails_up, fails_count, fails_all, crash_names_fewer}
@@ -77,6 +84,12 @@ record MayEnd (m : Member) (p : Owned) (rest : Rest) : Type 0 where
   pub other_logs : (k : Member) → (member_number k ≡ member_number m → ⊥) → logs k ≡ rest.logs k
   pub other_tasks : (k : Member) → (member_number k ≡ member_number m → ⊥) → (t : TaskNo) → tasks k t ≡ task_at k t p.managers
 
+-- what keeps the laws on blocks
+record BlocksKept (m : Member) (p : Owned) (new : KeptLog) (row : List KeptSet) (units : List Item) (room : ℕ) : Type 0 where
+  pub moves : MovesBy BlocksChange p (ending m new row units room p)
+  pub told : (s : StructNo) → AreTold (ground_of s p).sets
+  pub fit : AreFitting p
+
 -- what the repository lists is no matter of a log
 pub seen_listed : (m : Member) (log : Log) (manager : Manager) (repo : Repository) (kept : KeptLog) (lives : List Life) → IsSeen m log manager repo kept → IsSeen m log manager (record repo { lives = lives }) kept
 seen_listed m log manager repo kept lives seen = record { low = seen.low; keep = seen.keep; behind = seen.behind; next = seen.next; told = seen.told }
@@ -85,8 +98,8 @@ abbrev passing : ℕ → Log → Log
 passing next log = record log { next = next }
 
 ending_lawful : (p : Owned) (m : Member) (new : KeptLog) (row : List KeptSet) (units : List Item) (room : ℕ) (l : IsLawful p) (e : MayEnd m p l.rest) → HasMember m p → (manager_in m p.managers).up ≡ true → list_any (is_up_life m (manager_in m p.managers).incarnation) p.repo.lives ≡ true
-    → e.history ≡ p.history.items ++ units → (e.logs m).next ≤ new.writer.next → IsSeen m (passing new.writer.next (e.logs m)) (down (manager_in m p.managers)) p.repo new → IsLawful (ending m new row units room p)
-ending_lawful p m new row units room l e has up listed history more seen =
+    → e.history ≡ p.history.items ++ units → (e.logs m).next ≤ new.writer.next → IsSeen m (passing new.writer.next (e.logs m)) (down (manager_in m p.managers)) p.repo new → BlocksKept m p new row units room → IsLawful (ending m new row units room p)
+ending_lawful p m new row units room l e has up listed history more seen kept =
     let q = ending m new row units room p in
     let old = manager_in m p.managers in
     let inc = old.incarnation in
@@ -115,13 +128,15 @@ ending_lawful p m new row units room l e has up listed history more seen =
       history = e.history;
     }) in
     record {
-      rest = rest;
+      rest = record rest { outside = outside_in q };
+      outside = λ j. refl;
+      blocks = block_laws_moved p q kept.moves kept.told kept.fit l.blocks;
       mirrored = record {
         history = history;
         failed = λ k i. failed k i (member_number k == member_number m) ∙ sym (fails_all k m (record { number = i }) inc p.repo.lives listed);
         tops = l.mirrored.tops;
       };
-      laws = subst Laws (sym group) laws;
+      laws = bodies_moved p q rest kept.moves kept.told kept.fit l.blocks l.outside (subst Laws (sym group) laws);
       logs = by_member (λ k. member_number k ≤ length q.managers → IsSeen k (logs k) (manager_in k q.managers) q.repo (log_in k q.logs)) m
           (λ there. seen_listed m (logs m) (manager_in m q.managers) p.repo (log_in m q.logs) q.repo.lives
           (seen_same m (passing next (e.logs m)) (logs m) (down old) (manager_in m q.managers) p.repo new (log_in m q.logs) here (down_here m p.managers has.manager) (log_same m new p.logs has.log) seen))
@@ -221,14 +236,15 @@ cut_whole m log manager repo kept new left run told tells cut hand whole =
 
 -- no unit is committed
 quiet_lawful : (p : Owned) (m : Member) (new : KeptLog) (row : List KeptSet) (left : Bool) (units : List Item) (room : ℕ) (l : IsLawful p) (has : HasMember m p) → (manager_in m p.managers).up ≡ true → list_any (is_up_life m (manager_in m p.managers).incarnation) p.repo.lives ≡ true
-    → IsCut left (log_in m p.logs) new → units ≡ [] → (told : IsCutTold (l.rest.logs m) (manager_in m p.managers) (log_in m p.logs) new (pages_named m p.repo)) → told.runs ≡ (l.rest.logs m).runs → IsLawful (ending m new row units room p)
-quiet_lawful p m new row left units room l has up listed cut none told same =
+    → IsCut left (log_in m p.logs) new → units ≡ [] → (told : IsCutTold (l.rest.logs m) (manager_in m p.managers) (log_in m p.logs) new (pages_named m p.repo)) → told.runs ≡ (l.rest.logs m).runs → BlocksKept m p new row units room → IsLawful (ending m new row units room p)
+quiet_lawful p m new row left units room l has up listed cut none told same kept =
     let seen = seen_of p m l has in
     let log = l.rest.logs m in
     let e : MayEnd m p l.rest = record { logs = l.rest.logs; history = l.rest.history; tasks = λ k t. task_at k t p.managers; laws = l.laws; other_logs = λ k differ. refl; other_tasks = λ k differ t. refl } in
     ending_lawful p m new row units room l e has up listed (l.mirrored.history ∙ sym (append-nil p.history.items) ∙ ap (λ us. p.history.items ++ us) (sym none))
     (omega (arith, seen.behind, later_next left (log_in m p.logs) new cut))
     (subst (λ rs. IsSeen m (record log { runs = rs; next = new.writer.next }) (down (manager_in m p.managers)) p.repo new) same (seen_cut m log (manager_in m p.managers) p.repo (log_in m p.logs) new told seen))
+    kept
 
 hardened_log : (g : Group) (u : UnitName) (t : TaskNo) (ops : List (StructNo × Op)) (claims : List Claim) (next : ℕ) (m : Member) → u.member ≡ m → (hardened g u t ops claims next).logs m ≡ with_run (record { unit = u; first = (g.logs m).next; told = logged_ops ops claims }) next (g.logs m)
 hardened_log g u t ops claims next m own =
@@ -239,8 +255,8 @@ hardened_log g u t ops claims next m own =
 whole_lawful : (p : Owned) (m : Member) (new : KeptLog) (row : List KeptSet) (left : Bool) (units : List Item) (room : ℕ) (l : IsLawful p) (has : HasMember m p) → (manager_in m p.managers).up ≡ true → list_any (is_up_life m (manager_in m p.managers).incarnation) p.repo.lives ≡ true
     → IsCut left (log_in m p.logs) new → (run : Run) (t : TaskNo) (ops : List (StructNo × Op)) (claims : List Claim) → task_at m t p.managers ≡ hardening_task run.unit ops claims run.first → run.told ≡ logged_ops ops claims → run.unit.member ≡ m
     → units ≡ UnitOf run.unit ops ∷ [] → run.first < new.writer.next
-    → (told : IsCutTold (l.rest.logs m) (manager_in m p.managers) (log_in m p.logs) new (pages_named m p.repo)) → told.runs ≡ (l.rest.logs m).runs ++ run ∷ [] → IsLawful (ending m new row units room p)
-whole_lawful p m new row left units room l has up listed cut run t ops claims hardens is_told own units_are more told runs =
+    → (told : IsCutTold (l.rest.logs m) (manager_in m p.managers) (log_in m p.logs) new (pages_named m p.repo)) → told.runs ≡ (l.rest.logs m).runs ++ run ∷ [] → BlocksKept m p new row units room → IsLawful (ending m new row units room p)
+whole_lawful p m new row left units room l has up listed cut run t ops claims hardens is_told own units_are more told runs kept =
     let log = l.rest.logs m in
     let u = run.unit in
     let next = new.writer.next in
@@ -265,6 +281,7 @@ whole_lawful p m new row left units room l has up listed cut run t ops claims ha
     (subst (λ (x : Log). IsSeen m (passing next x) (down (manager_in m p.managers)) p.repo new) (sym here)
     (subst (λ rs. IsSeen m (record log { runs = rs; next = next }) (down (manager_in m p.managers)) p.repo new) (runs ∙ ap (λ (r : Run). log.runs ++ r ∷ []) run_is)
     (seen_cut m log (manager_in m p.managers) p.repo (log_in m p.logs) new told (seen_of p m l has))))
+    kept
 
 committed_none : (left : Bool) (m : Member) (p : Owned) → (is_last (log_in m p.logs).writer && left) ≡ false → committed_by left m p ≡ []
 committed_none left m p is = ap (λ (b : Bool). cond b (latched_unit (manager_in m p.managers).tasks) []) is
@@ -281,9 +298,9 @@ and_last true b is = is
 and_last false b is = absurd (true≢false (sym is))
 
 crash_ending : (a b : ℕ) (p : Owned) (m : Member) (new : KeptLog) (row : List KeptSet) (left : Bool) (room : ℕ) → IsSteady a b p → (l : IsLawful p) → HasMember m p → (manager_in m p.managers).up ≡ true → (log_in m p.logs).tells ≡ true → IsCut left (log_in m p.logs) new
-    → IsLawful (ending m new row (committed_by left m p) room p)
+    → BlocksKept m p new row (committed_by left m p) room → IsLawful (ending m new row (committed_by left m p) room p)
 unfolding cut_torn cut_idle
-crash_ending a b p m new row left room s l has up tells cut = by told.hand refl told.run
+crash_ending a b p m new row left room s l has up tells cut blocks = by told.hand refl told.run
   where
     manager : Manager
     manager = manager_in m p.managers
@@ -311,20 +328,20 @@ crash_ending a b p m new row left room s l has up tells cut = by told.hand refl 
         ∙ ap (λ (x : Task). UnitOf u x.ops ∷ []) hardens in
         let within = (hand_within (l.rest.logs m).keep kept.writer told.gone (l.rest.logs m).runs run kept.bytes (subst (λ h. Tells (l.rest.logs m).keep kept.writer told.gone (l.rest.logs m).runs h kept.bytes) hand told.tells)).1 in
         let next : new.writer.next ≡ kept.writer.next + 1 = ap (λ (w : LogState). w.next) cut.writer ∙ ap (λ (x : Bool). next_behind x kept.writer.next) (and_last (is_last kept.writer) left whole) in
-        whole_lawful p m new row left (committed_by left m p) room l has up listed cut run t ops claims hardens is_told own units (omega (arith, within, next)) made.0 made.1
+        whole_lawful p m new row left (committed_by left m p) room l has up listed cut run t ops claims hardens is_told own units (omega (arith, within, next)) made.0 made.1 blocks
     by_whole run hand (t, ops, claims, hardens, is_told) false torn =
         quiet_lawful p m new row left (committed_by left m p) room l has up listed cut (committed_none left m p torn)
-        (cut_torn m (l.rest.logs m) manager p.repo kept new left run told tells cut hand torn (s.live m t run.unit (ap (λ (x : Task). x.unit) hardens)).incarnation) refl
+        (cut_torn m (l.rest.logs m) manager p.repo kept new left run told tells cut hand torn (s.live m t run.unit (ap (λ (x : Task). x.unit) hardens)).incarnation) refl blocks
 
     by : (hand : Option Run) → told.hand ≡ hand → IsRunOf (tasks_of manager) hand → IsLawful (ending m new row (committed_by left m p) room p)
-    by None is run = quiet_lawful p m new row left (committed_by left m p) room l has up listed cut (committed_none left m p (and_right (is_last kept.writer) left (cut.idle (none is)))) (cut_idle m (l.rest.logs m) manager p.repo kept new left told tells cut is) refl
+    by None is run = quiet_lawful p m new row left (committed_by left m p) room l has up listed cut (committed_none left m p (and_right (is_last kept.writer) left (cut.idle (none is)))) (cut_idle m (l.rest.logs m) manager p.repo kept new left told tells cut is) refl blocks
     by (Some run) is of = by_whole run is of (is_last kept.writer && left) refl
 
 crash_lawful : (a b : ℕ) (p : Owned) (m : Member) (new : KeptLog) (row : List KeptSet) (left : Bool) (room : ℕ) → IsSteady a b p → (l : IsLawful p) → HasMember m p → (manager_in m p.managers).up ≡ true → (log_in m p.logs).tells ≡ true → IsCut left (log_in m p.logs) new
-    → IsLawful (crashed m new row (committed_by left m p) room p)
-crash_lawful a b p m new row left room s l has up tells cut =
+    → BlocksKept m p new row (committed_by left m p) room → IsLawful (crashed m new row (committed_by left m p) room p)
+crash_lawful a b p m new row left room s l has up tells cut blocks =
     let inc = (manager_in m p.managers).incarnation in
-    lawful_raised (ending m new row (committed_by left m p) room p) (failed_in m inc p.repo) (crash_ending a b p m new row left room s l has up tells cut) (crash_names_fewer m inc p.repo)
+    lawful_raised (ending m new row (committed_by left m p) room p) (failed_in m inc p.repo) (crash_ending a b p m new row left room s l has up tells cut blocks) (crash_names_fewer m inc p.repo)
     (λ rest mirrored. record { history = mirrored.history; failed = mirrored.failed; tops = mirrored.tops })
 
 -- ---- the group
@@ -351,10 +368,24 @@ cut_as_long (x ∷ xs) (y ∷ ys) cut = let rest = cut_as_long xs ys cut.1 in om
 cut_as_long [] (y ∷ ys) cut = absurd cut
 cut_as_long (x ∷ xs) [] cut = absurd cut
 
-crash_parts : (a b : ℕ) (p : Owned) (m : Member) (new : KeptLog) (row : List KeptSet) (left : Bool) (room : ℕ) → IsSteady a b p → HasMember m p → (manager_in m p.managers).up ≡ true → IsCut left (log_in m p.logs) new → length row ≡ length (sets_of m p.datasets) → p.history.room ≤ room + length (committed_by left m p)
+-- what it does to blocks
+crashed_moves : (a b : ℕ) (p : Owned) (m : Member) (new : KeptLog) (row : List KeptSet) (units : List Item) (room : ℕ) → IsSteady a b p → HasMember m p → (manager_in m p.managers).up ≡ true → AreCut (sets_of m p.datasets) row
+    → MovesMember m p (crashed m new row units room p)
+crashed_moves a b p m new row units room s has up sets =
+    crash_moves p (crashed m new row units room p) m (down (manager_in m p.managers)) has s.shape.datasets refl refl up refl refl
+    (λ j within. cut_here m j row p.datasets (has_set a b p m j s has within) sets)
+    (λ k j differ. set_of_member m k j row p.datasets differ)
+
+pub crash_moves_blocks : (a b : ℕ) (m : Member) (p q : Owned) → IsSteady a b p → HasMember m p → (manager_in m p.managers).up ≡ true → IsCrash m p q → MovesMember m p q
+crash_moves_blocks a b m p q s has up crash =
+    subst (MovesMember m p) (sym crash.parts) (crashed_moves a b p m (log_in m q.logs) (sets_of m q.datasets) (committed_by crash.left m p) q.history.room s has up crash.datasets)
+
+crash_parts : (a b : ℕ) (p : Owned) (m : Member) (new : KeptLog) (row : List KeptSet) (left : Bool) (room : ℕ) → IsSteady a b p → HasMember m p → (manager_in m p.managers).up ≡ true → IsCut left (log_in m p.logs) new → AreCut (sets_of m p.datasets) row → p.history.room ≤ room + length (committed_by left m p)
     → IsSteady a b (crashed m new row (committed_by left m p) room p)
-crash_parts a b p m new row left room s has up cut long more =
+crash_parts a b p m new row left room s has up cut sets more =
     let q = crashed m new row (committed_by left m p) room p in
+    let long = cut_as_long (sets_of m p.datasets) row sets in
+    let moves = by_member_change m p q (crashed_moves a b p m new row (committed_by left m p) room s has up sets) in
     let ms = p.managers in
     let old = manager_in m ms in
     let inc = old.incarnation in
@@ -409,12 +440,17 @@ crash_parts a b p m new row left room s has up cut long more =
             (λ k differ. subst (λ (x : Manager). x.next ≤ 1 + a + b) (sym (down_other m k ms differ)) (s.counted.names k));
         ids = s.counted.ids;
       };
+      fitting = fitting_moved p q moves s.fitting;
       lawful = λ telling.
           let counts : length q.logs ≡ length p.logs = length-set p.logs (member_number m - 1) new in
-          let before : AreTelling p = by_member (λ k. member_number k ≤ length p.logs → (log_in k p.logs).tells ≡ true) m
-          (λ is. sym cut.tells ∙ ap (λ (x : KeptLog). x.tells) (sym there) ∙ telling m (subst (λ (n : ℕ). member_number m ≤ n) (sym counts) is))
-          (λ k differ is. ap (λ (x : KeptLog). x.tells) (sym (log_other m k new p.logs differ)) ∙ telling k (subst (λ (n : ℕ). member_number k ≤ n) (sym counts) is)) in
-          crash_lawful a b p m new row left room s (s.lawful before) has up (before m has.log) cut;
+          let before : AreTelling p = record {
+            logs = by_member (λ k. member_number k ≤ length p.logs → (log_in k p.logs).tells ≡ true) m
+                (λ is. sym cut.tells ∙ ap (λ (x : KeptLog). x.tells) (sym there) ∙ telling.logs m (subst (λ (n : ℕ). member_number m ≤ n) (sym counts) is))
+                (λ k differ is. ap (λ (x : KeptLog). x.tells) (sym (log_other m k new p.logs differ)) ∙ telling.logs k (subst (λ (n : ℕ). member_number k ≤ n) (sym counts) is));
+            sets = sets_told p q moves telling;
+          } in
+          crash_lawful a b p m new row left room s (s.lawful before) has up (before.logs m has.log) cut
+          (record { moves = alike BlocksChange p q (ending m new row (committed_by left m p) room p) refl refl refl moves; told = before.sets; fit = s.fitting });
     }
   where
     seat : (k : Member) (i : Incarnation) → HasEnded i.number (seat_of (manager_in k p.managers)) → HasEnded i.number (seat_of (manager_in k (with_down m p.managers)))
@@ -435,4 +471,4 @@ crash_parts a b p m new row left room s has up cut long more =
         record { member = subst (λ (n : ℕ). member_number k ≤ n) (sym (down_length m p.managers)) was.member; ended = seat k i was.ended }
 
 pub crash_steady : (a b : ℕ) (m : Member) (p q : Owned) → IsSteady a b p → HasMember m p → (manager_in m p.managers).up ≡ true → IsCrash m p q → IsSteady a b q
-crash_steady a b m p q s has up crash = subst (IsSteady a b) (sym crash.parts) (crash_parts a b p m (log_in m q.logs) (sets_of m q.datasets) crash.left q.history.room s has up crash.log (cut_as_long (sets_of m p.datasets) (sets_of m q.datasets) crash.datasets) crash.room)
+crash_steady a b m p q s has up crash = subst (IsSteady a b) (sym crash.parts) (crash_parts a b p m (log_in m q.logs) (sets_of m q.datasets) crash.left q.history.room s has up crash.log crash.datasets crash.room)

@@ -15,3 +15,4 @@ pub mod Peers
 pub mod Overs
 pub mod Giving
 pub mod Clearing
+pub mod Moves

@@ -1,8 +1,9 @@
 -- the steps of peers leave the group steady
 use Rattle.std.proofs.Common.{◌≡◌, inl, inr, ℕ, ◌-◌, ◌≤◌, List, length, Bool, true, Option, Some, None, Result, Ok, Err, refl, sym, ap, subst, ◌∙◌, length-set}
-use Rattle.std.specs.List.{AllByRecursion}
 use Rattle.qsg_num.specs.declared.ids.Incarnation.{Incarnation}
 use Rattle.qsg_num.specs.declared.seats.Member.{Member}
+use Rattle.qsg_num.specs.declared.seats.TaskNo.{TaskNo}
+use Rattle.qsg_num.specs.declared.seats.TaskNo.TheVariants.{System}
 use Rattle.qsg_num.specs.Seats.{member_number, structure_number}
 use Rattle.qsg_lists.specs.declared.parts.Connection.{Connection}
 use Rattle.qsg_lists.specs.declared.parts.Lost.{Lost}
@@ -18,16 +19,21 @@ use Rattle.qsg_group.proofs.Keeping.{laws_stay}
 use Rattle.qsg_unitlog.specs.Tells.{Tells}
 use Rattle.qsg_manager.specs.declared.structures.MarkedEntry.{MarkedEntry}
 use Rattle.qsg_manager.specs.Facilities.{structure_in}
-use Rattle.qsg_manager.specs.Storage.{manager_in, task_at}
+use Rattle.qsg_manager.specs.Storage.{manager_in}
 use Rattle.qsg_logs.specs.Kept.{log_in}
 use Rattle.qsg_parts.specs.Owned.{Owned, HasMember}
 use Rattle.qsg_walk.specs.Walks.{Walk, FeedsKept, Feeds}
 use Rattle.qsg_walk.specs.declared.walk.KeptPage.{KeptPage}
 use Rattle.qsg_logrec.specs.declared.record.LogRecord.{LogRecord}
 use Rattle.qsg_reading.proofs.Agreeing.{begun_agrees}
-use Rattle.qsg_steady.specs.Steady.{IsWithin, IsLawful, IsSteady}
+use Rattle.qsg_steady.specs.Steady.{IsLawful, IsSteady}
 use Rattle.qsg_steady.proofs.Operating.{same_ids}
 use Rattle.qsg_steady.proofs.Sets.{sets_stay}
+use Rattle.qsg_steady.specs.Standing.{IsOfTask, Moves}
+use Rattle.qsg_steady.proofs.Doing.{settles_keep, revised_task}
+use Rattle.qsg_steady.proofs.Grounding.{by_task_change, rests_task, rested, structured}
+use Rattle.qsg_steady.proofs.Sharing.{parts_steady}
+use Rattle.qsg_bodies.specs.Grounds.{ground_of}
 use Rattle.qsg_peer.specs.declared.phases.FailedLife.{FailedLife}
 use Rattle.qsg_peer.specs.declared.phases.NoMemory.{NoMemory}
 use Rattle.qsg_peer.specs.declared.phases.PeerTurn.{PeerTurn}
@@ -61,6 +67,16 @@ after_step : (g h : Group) → IsStep g h → Laws g → Laws h
 after_step g h (inl same) laws = subst Laws (sym same) laws
 after_step g h (inr change) laws = laws_stay g h change laws
 
+pub off_moves : (m : Member) (t : TaskNo) (connection : Connection) (found : MarkedEntry) (commits : Bool) (p : Owned) → HasStructure connection.structure p → Moves m t p (with_mark_off connection found commits p)
+off_moves m t connection found commits p within =
+    let q = with_mark_off connection found commits p in
+    let g = ground_of connection.structure p in
+    structured (IsOfTask m t) connection.structure _ p q (rests_task m t) within (length-set p.structures (structure_number connection.structure - 1) _) refl refl (λ k. refl)
+    (revised_task m t g (mark_answer connection found p) found.id (settled_entry commits) (settles_keep commits))
+
+pub resolve_moves : (m : Member) (t : TaskNo) (life : FailedLife) (p : Owned) → Moves m t p (with_resolved life p)
+resolve_moves m t life p = rested (IsOfTask m t) p (with_resolved life p) (rests_task m t) refl (λ s. refl)
+
 pub off_steady : (a b : ℕ) (life : FailedLife) (connection : Connection) (found : MarkedEntry) (reader : Fed) (p : Owned) → IsSteady a b p → HasStructure connection.structure p → is_of life found.unit ≡ true → IsOver life p → MayDecide life reader p
     → IsSteady a b (with_mark_off connection found (is_committed found.unit reader.commits) p)
 off_steady a b life connection found reader p s within is over may =
@@ -69,27 +85,9 @@ off_steady a b life connection found reader p s within is over may =
     let y = revised_if_done (mark_answer connection found p) found.id (settled_entry commits) old in
     let q = with_mark_off connection found commits p in
     let same : length q.structures ≡ length p.structures = length-set p.structures (structure_number connection.structure - 1) y in
-    record {
-      shape = record { logs = s.shape.logs; few = s.shape.few; five = s.shape.five; lows = s.shape.lows; structures = subst (λ (n : ℕ). length p.objects.structures ≤ n) (sym same) s.shape.structures; datasets = sets_stay p q refl refl same s.shape.datasets };
-      named = s.named;
-      own = s.own;
-      live = s.live;
-      within = λ m t. subst (λ (n : ℕ). AllByRecursion (IsWithin n) (task_at m t p.managers).claims) (sym same) (s.within m t);
-      short = s.short;
-      paired = s.paired;
-      held = s.held;
-      behind = s.behind;
-      listed = s.listed;
-      over = s.over;
-      room = s.room;
-      counted = record { names = s.counted.names; ids = same_ids a connection.structure y p.structures within (last_same (mark_answer connection found p) found commits old) s.counted.ids };
-      lawful = λ tells. let l = s.lawful tells in record {
-        rest = l.rest;
-        mirrored = record { history = l.mirrored.history; failed = l.mirrored.failed; tops = l.mirrored.tops };
-        laws = after_step (group_in l.rest p) (group_in l.rest q) (mark_off_is_step l.rest life connection found reader p within l.laws over (may tells l) is) l.laws;
-        logs = l.logs;
-      };
-    }
+    parts_steady a b p q.structures p.datasets s same (sets_stay p q refl refl same) (by_task_change life.member System p q (off_moves life.member System connection found commits p within))
+    (same_ids a connection.structure y p.structures within (last_same (mark_answer connection found p) found commits old) s.counted.ids)
+    (λ tells l. after_step (group_in l.rest p) (group_in l.rest q) (mark_off_is_step l.rest life connection found reader p within l.laws over (may tells l) is) l.laws)
 
 -- ---- a resolve
 
@@ -113,8 +111,11 @@ resolve_steady a b life p s clear =
       over = λ m i is. s.over m i (resolves_unresolved m life.member i life.incarnation p.repo is);
       room = s.room;
       counted = record { names = s.counted.names; ids = s.counted.ids };
-      lawful = λ tells. let l = s.lawful tells in record {
+      fitting = s.fitting;
+      lawful = λ tells. let l = s.lawful (record { logs = tells.logs; sets = tells.sets }) in record {
         rest = with_resolved_life life l.rest;
+        outside = l.outside;
+        blocks = l.blocks;
         mirrored = record { history = l.mirrored.history; failed = resolve_is_mirrored l.rest life p l.mirrored.failed; tops = l.mirrored.tops };
         laws = laws_stay (group_in l.rest p) (group_in (with_resolved_life life l.rest) q) (resolve_is_change l.rest life p l.laws clear) l.laws;
         logs = λ m there. seen_listed m (l.rest.logs m) (manager_in m p.managers) p.repo (log_in m p.logs) q.repo.lives (l.logs m there);
@@ -123,11 +124,11 @@ resolve_steady a b life p s clear =
 
 -- ---- a step
 
-made : (next : Next) (result : Result PeerTurn NoMemory) (v : Work) (q : Owned) → Makes next result v q → q ≡ next.parts
+pub made : (next : Next) (result : Result PeerTurn NoMemory) (v : Work) (q : Owned) → Makes next result v q → q ≡ next.parts
 made next (Ok turn) v q is = ap (λ (n : Next). n.parts) is
 made next (Err e) v q is = absurd is
 
-found_same : (name : Option (Member × Incarnation)) (w : Work) (p : Owned) → (after_find (found_phase name) w p).parts ≡ p
+pub found_same : (name : Option (Member × Incarnation)) (w : Work) (p : Owned) → (after_find (found_phase name) w p).parts ≡ p
 found_same None w p = refl
 found_same (Some n) w p = refl
 

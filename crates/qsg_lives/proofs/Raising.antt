@@ -58,6 +58,8 @@ lawful_raised p new l fewer mirrored =
     let before = mirrored l.rest l.mirrored in
     record {
       rest = rest;
+      outside = l.outside;
+      blocks = l.blocks;
       mirrored = record { history = before.history; failed = before.failed; tops = before.tops };
       laws = laws_given_up (group_of l.rest p.structures p.managers) page
           (λ m. by (λ n. (l.rest.logs m).keep ≤ n) (keep m new) (l.rest.logs m).keep (there m) (λ is. let seen = l.logs m (within m is) in omega (arith, seen.keep, fewer.rises m)) (omega arith))

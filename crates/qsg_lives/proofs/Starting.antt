@@ -7,6 +7,7 @@ use Rattle.std.proofs.lemmas.Option.{none-some}
 use Rattle.qsg_num.specs.declared.ids.PageNo.{PageNo}
 use Rattle.qsg_num.specs.declared.ids.UnitName.{UnitName}
 use Rattle.qsg_num.specs.declared.seats.Member.{Member}
+use Rattle.qsg_num.specs.declared.seats.StructNo.{StructNo}
 use Rattle.qsg_num.specs.declared.seats.TaskNo.{TaskNo}
 use Rattle.qsg_num.specs.Seats.{member_number}
 use Rattle.qsg_disk.specs.Byte.{Byte}
@@ -47,13 +48,19 @@ use Rattle.qsg_start.specs.declared.phases.StartTurn.{StartTurn}
 use Rattle.qsg_start.specs.Works.{Work}
 use Rattle.qsg_start.specs.Steps.{Next, HasRead, checked, after_check, after_low, after_begin, Reads, Makes, Acts, GoesOn, NextAt, NextStart, started}
 use Rattle.qsg_steady.specs.Actions.{IsUnwritten, paged}
-use Rattle.qsg_steady.specs.Steady.{pages_named, tasks_of, TellsFrom, IsSeen, IsBehind, IsLive, IsListed, IsWithin, AreTelling, IsLawful, IsSteady}
+use Rattle.qsg_steady.specs.Steady.{pages_named, tasks_of, TellsFrom, IsSeen, IsBehind, IsLive, IsListed, IsWithin, AreTelling, outside_in, AreFitting, IsLawful, IsSteady}
 use Rattle.qsg_steady.proofs.Acting.{seen_of}
 use Rattle.qsg_steady.proofs.Committing.{failed_steady}
 use Rattle.qsg_steady.proofs.Gives.{down_idle, down_quiet}
 use Rattle.qsg_steady.proofs.Moving.{by_member, seen_same}
 use Rattle.qsg_steady.proofs.Places.{log_same, log_other, written_same, writing_with}
 use Rattle.qsg_steady.proofs.Sets.{sets_stay}
+use Rattle.qsg_steady.specs.Standing.{MovesBy, MovesMember}
+use Rattle.qsg_steady.proofs.Grounding.{fitting_moved, block_laws_moved, bodies_moved, sets_told, by_member_change}
+use Rattle.qsg_steady.proofs.Members.{start_moves as member_starts}
+use Rattle.qsg_blocks.specs.State.{AreTold}
+use Rattle.qsg_blocks.specs.Changes.{Change as BlocksChange}
+use Rattle.qsg_bodies.specs.Grounds.{ground_of}
 use Rattle.qsg_lives.specs.Deciding.{MayGoOnAt, MayStartAt}
 use Rattle.qsg_lives.specs.Standing.{SparesAll}
 use Rattle.qsg_lives.proofs.Crashing.{seen_listed}
@@ -137,8 +144,8 @@ start_seen m p page log page_is idle_now next seen =
     }
 
 start_lawful : (m : Member) (page : PageNo) (p : Owned) (l : IsLawful p) → HasMember m p → (manager_in m p.managers).up ≡ false → (log_in m p.logs).writer.hand ≡ None → page.number ≡ (log_in m p.logs).writer.next
-    → (next_incarnation m p.repo).number ≡ (manager_in m p.managers).incarnation.number + 1 → IsLawful (started m page p)
-start_lawful m page p l has down idle_now page_is next =
+    → (next_incarnation m p.repo).number ≡ (manager_in m p.managers).incarnation.number + 1 → MovesBy BlocksChange p (started m page p) → ((s : StructNo) → AreTold (ground_of s p).sets) → AreFitting p → IsLawful (started m page p)
+start_lawful m page p l has down idle_now page_is next moves told fit =
     let q = started m page p in
     let g : Group = group_of l.rest p.structures p.managers in
     let group : group_of l.rest p.structures q.managers ≡ started_in g m = (λ i. record {
@@ -151,9 +158,11 @@ start_lawful m page p l has down idle_now page_is next =
       history = l.rest.history;
     }) in
     record {
-      rest = l.rest;
+      rest = record l.rest { outside = outside_in q };
+      outside = λ j. refl;
+      blocks = block_laws_moved p q moves told fit l.blocks;
       mirrored = record { history = l.mirrored.history; failed = λ k i. l.mirrored.failed k i ∙ sym (starts_unresolved k m (record { number = i }) p.repo); tops = l.mirrored.tops };
-      laws = subst Laws (sym group) (laws_stay g (started_in g m) (Starts g m (record { down = down })) l.laws);
+      laws = bodies_moved p q l.rest moves told fit l.blocks l.outside (subst Laws (sym group) (laws_stay g (started_in g m) (Starts g m (record { down = down })) l.laws));
       logs = by_member (λ k. member_number k ≤ length q.managers → IsSeen k (l.rest.logs k) (manager_in k q.managers) q.repo (log_in k q.logs)) m
           (λ is. seen_listed m (l.rest.logs m) (manager_in m q.managers) p.repo (log_in m q.logs) q.repo.lives
           (seen_same m (l.rest.logs m) (l.rest.logs m) (upped m p) (manager_in m q.managers) p.repo (restarted page.number (log_in m p.logs)) (log_in m q.logs) refl (manager_same m (upped m p) p.managers has.manager) (log_same m (restarted page.number (log_in m p.logs)) p.logs has.log)
@@ -171,6 +180,12 @@ other_one m k differ = elim (cases_Bool (member_number m == member_number k)) [
 
 own_one : (m : Member) → one_if (member_number m == member_number m) ≡ 1
 own_one m = ap one_if (eq-eqb (member_number m) (member_number m) refl)
+
+pub start_moves : (a b : ℕ) (m : Member) (page : PageNo) (p : Owned) → IsSteady a b p → HasMember m p → MayGoOnAt m page p → MovesMember m p (started m page p)
+start_moves a b m page p s has may =
+    let given = (s.listed m has.manager).given in
+    let next : (next_incarnation m p.repo).number ≡ (manager_in m p.managers).incarnation.number + 1 = omega (arith, given) in
+    member_starts p (started m page p) m (upped m p) has refl refl refl refl next may.made
 
 pub start_steady : (a b : ℕ) (m : Member) (page : PageNo) (p : Owned) → IsSteady a b p → HasMember m p → MayGoOnAt m page p → IsSteady a b (started m page p)
 start_steady a b m page p s has may =
@@ -190,6 +205,7 @@ start_steady a b m page p s has may =
     let idles : (t : TaskNo) → tasks_of x t ≡ idle = λ t. down_idle a b p m t s may.down in
     let given = (s.listed m has.manager).given in
     let next : (next_incarnation m p.repo).number ≡ old.incarnation.number + 1 = omega (arith, given) in
+    let moves = by_member_change m p q (start_moves a b m page p s has may) in
     record {
       shape = record {
         logs = counts ∙ s.shape.logs ∙ sym count;
@@ -238,11 +254,15 @@ start_steady a b m page p s has may =
             (λ k differ. subst (λ (y : Manager). y.next ≤ 1 + a + b) (sym (other k differ)) (s.counted.names k));
         ids = s.counted.ids;
       };
+      fitting = fitting_moved p q moves s.fitting;
       lawful = λ telling.
-          let before : AreTelling p = by_member (λ k. member_number k ≤ length p.logs → (log_in k p.logs).tells ≡ true) m
-          (λ is. ap (λ (y : KeptLog). y.tells) (sym there) ∙ telling m (subst (λ (n : ℕ). member_number m ≤ n) (sym counts) is))
-          (λ k differ is. ap (λ (y : KeptLog). y.tells) (sym (other_log k differ)) ∙ telling k (subst (λ (n : ℕ). member_number k ≤ n) (sym counts) is)) in
-          start_lawful m page p (s.lawful before) has may.down (down_quiet a b p m s has may.down) (may.next before) next;
+          let before : AreTelling p = record {
+            logs = by_member (λ k. member_number k ≤ length p.logs → (log_in k p.logs).tells ≡ true) m
+                (λ is. ap (λ (y : KeptLog). y.tells) (sym there) ∙ telling.logs m (subst (λ (n : ℕ). member_number m ≤ n) (sym counts) is))
+                (λ k differ is. ap (λ (y : KeptLog). y.tells) (sym (other_log k differ)) ∙ telling.logs k (subst (λ (n : ℕ). member_number k ≤ n) (sym counts) is));
+            sets = sets_told p q moves telling;
+          } in
+          start_lawful m page p (s.lawful before) has may.down (down_quiet a b p m s has may.down) (may.next before) next moves before.sets s.fitting;
     }
 
 -- ---- a step of a START

@@ -1,12 +1,16 @@
 -- what those must know who go on with the log of a member that ended, or decide of its units
-use Rattle.std.specs.Prelude.{◌≡◌, ◌≤◌, false}
+use Rattle.std.specs.Prelude.{◌≡◌, ◌≤◌, false, length}
 use Rattle.qsg_num.specs.declared.seats.Member.{Member}
+use Rattle.qsg_num.specs.declared.seats.StructNo.{StructNo}
 use Rattle.qsg_num.specs.declared.ids.PageNo.{PageNo}
+use Rattle.qsg_num.specs.Seats.{structure_number}
 use Rattle.qsg_logread.specs.Fed.{Fed}
 use Rattle.qsg_repo.specs.Tables.{low_of}
 use Rattle.qsg_manager.specs.Storage.{manager_in}
 use Rattle.qsg_logs.specs.Kept.{log_in}
 use Rattle.qsg_parts.specs.Owned.{Owned}
+use Rattle.qsg_blocks.specs.Changes.{MayStart}
+use Rattle.qsg_bodies.specs.Grounds.{ground_of}
 use Rattle.qsg_steady.specs.Steady.{AreTelling, IsLawful}
 use Rattle.qsg_peer.specs.declared.phases.FailedLife.{FailedLife}
 use Rattle.qsg_peer.specs.declared.phases.Phase.{Phase as PeerPhase}
@@ -19,12 +23,13 @@ use Rattle.qsg_start.specs.declared.phases.Phase.TheVariants as starting
 
 -- ---- a START
 
--- A member that is down may go on with its log at a page that isn't before its low page: where logs tell their bytes, it
--- is the page that its writer comes to next.
+-- A member that is down may go on with its log at a page that isn't before its low page, where its maps are made: where
+-- devices tell their bytes, it is the page that its writer comes to next.
 pub record MayGoOnAt (m : Member) (page : PageNo) (p : Owned) : Type 0 where
   pub down : (manager_in m p.managers).up ≡ false
   pub low : (low_of m p.repo).number ≤ page.number
   pub next : AreTelling p → page.number ≡ (log_in m p.logs).writer.next
+  pub made : (s : StructNo) → structure_number s ≤ length p.structures → MayStart (ground_of s p) m
 
 abbrev pub MayStartAt : StartPhase → Member → Owned → Type 0
 MayStartAt starting.Check m p = Unit {0}

@@ -8,13 +8,13 @@ ghost use Rattle.qsg_logpage.specs.Page.{page_at};
 ghost use Rattle.qsg_logpage.specs.Reserved.{besides, pages_for};
 ghost use Rattle.qsg_logpage.specs.Log.{IsTied, advanced, made_safe, pages_written, step_of, in_hand_of, has_run};
 ghost use Rattle.qsg_logs.specs.Writers.{reserve_answer};
-ghost use Rattle.qsg_logs.specs.Kept.{log_in, with_log, need_of, with_reserved, with_record_of, fallen_back, with_begun, with_ended, IsKept};
+ghost use Rattle.qsg_logs.specs.Kept.{log_in, with_log, need_of, with_reserved, filling_of, with_filling, with_record_of, fallen_back, with_begun, with_ended, IsKept};
 ghost use Rattle.qsg_logs.specs.Reading.{IsRead, IsFound};
 ghost use Rattle.qsg_logs.specs.Cuts.{IsCut, restarted};
 
 use crate::member_log::MemberLog;
 use qsg_disk::{Disk, Failed};
-use qsg_logneed::LONGEST_RECORD;
+use qsg_logneed::{Filling, LONGEST_RECORD};
 use qsg_logpage::{InHand, LogStep, NoLog};
 use qsg_num::{Member, PAGE_BYTES, PAGE_NUMBERS, Page, PageNo, Pages, TaskNo, UnitName};
 use std::marker::Model;
@@ -108,6 +108,25 @@ impl<D: Disk> Logs<D> {
     {
         let log = &mut self.items[member.index()];
         log.add_record(task, logged);
+    }
+
+    /// How far the records of the unit of a member's task fill their pages.
+    pub fn filling(&self, member: Member, task: TaskNo) -> Filling
+        requires within { member_number member ≤ length self.now }
+        ensures { result ≡ filling_of task (log_in member self.now) }
+    {
+        self.items[member.index()].filling(task)
+    }
+
+    /// The records of the unit of a member's task fill their pages so far again, as they did before an operation that is
+    /// undone.
+    pub fn set_filling(&mut self, member: Member, task: TaskNo, before: Filling)
+        requires within { member_number member ≤ length self.old }
+        requires fits { before.pages ≤ (log_in member self.old).writer.size }
+        ensures { self.new ≡ with_log member (with_filling task before (log_in member self.old)) self.old }
+    {
+        let log = &mut self.items[member.index()];
+        log.set_filling(task, before);
     }
 
     /// Makes what is reserved for the unit of a member's task what its records and its commit need again, or nothing where

@@ -7,7 +7,7 @@ ghost use Rattle.qsg_logpage.specs.Page.{page_at};
 ghost use Rattle.qsg_logpage.specs.Reserved.{besides, pages_for};
 ghost use Rattle.qsg_logpage.specs.Log.{LogState, IsTied, advanced, made_safe, pages_written, step_of, in_hand_of, has_run};
 ghost use Rattle.qsg_logs.specs.Writers.{reserve_answer, new_writer, next_after};
-ghost use Rattle.qsg_logs.specs.Kept.{no_fillings, need_of, with_reserved, with_record_of, fallen_back, with_begun, with_ended, filling_of, with_operation, IsKept};
+ghost use Rattle.qsg_logs.specs.Kept.{no_fillings, need_of, with_reserved, with_record_of, fallen_back, with_begun, with_ended, filling_of, with_filling, with_operation, IsKept};
 ghost use Rattle.qsg_logs.specs.Reading.{IsRead, IsFound};
 ghost use Rattle.qsg_logs.specs.Cuts.{IsCut, next_behind, restarted};
 
@@ -117,7 +117,7 @@ impl<D: Disk> MemberLog<D> {
     }
 
     /// How far the records of a task's unit fill their pages.
-    fn filling(&self, task: TaskNo) -> Filling
+    pub fn filling(&self, task: TaskNo) -> Filling
         ensures value { result ≡ filling_of task self.now }
         ensures few { result.pages < 1048576 }
     {
@@ -166,6 +166,14 @@ impl<D: Disk> MemberLog<D> {
     {
         let filling = with_operation(self.filling(task), logged);
         self.fillings[usize::from(task.get())] = filling;
+    }
+
+    /// The records of a task's unit fill their pages so far again, as they did before an operation that is undone.
+    pub fn set_filling(&mut self, task: TaskNo, before: Filling)
+        requires fits { before.pages ≤ self.old.writer.size }
+        ensures { self.new ≡ with_filling task before self.old }
+    {
+        self.fillings[usize::from(task.get())] = before;
     }
 
     /// Makes what is reserved for a task's unit what its records and its commit need again, or nothing where it has no

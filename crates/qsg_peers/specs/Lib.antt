@@ -1,2 +1,4 @@
+pub mod Works
 pub mod Peers
 pub mod Rooms
+pub mod Choosing

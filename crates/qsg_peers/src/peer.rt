@@ -1,15 +1,19 @@
 //! The system task of a member.
 
-ghost use Rattle.std.specs.Prelude.{◌≡◌, ◌<◌, ◌++◌, ◌∷◌, [], true, IfOk, IfSome, OnOk, OnErr, Some, IsSome, vec_len, vec_capacity};
+ghost use Rattle.std.specs.Prelude.{◌≡◌, ◌<◌, ◌++◌, ◌∷◌, [], true, IfOk, IfSome, OnOk, OnErr, Some, None, IsSome, is_some, vec_len, vec_capacity};
 ghost use Rattle.std.specs.Option.{option_and_then};
 ghost use Rattle.qsg_parts.specs.Owned.{owned};
-ghost use Rattle.qsg_peer.specs.Needs.{MayStepAt, takes_memory};
-ghost use Rattle.qsg_peer.specs.Reading.{reading_of};
-ghost use Rattle.qsg_peer.specs.Works.{Work, IsSound, new_work};
+ghost use Rattle.qsg_peer.specs.Works.{new_work};
+ghost use Rattle.qsg_peers.specs.declared.work.SystemWork.{SystemWork};
+ghost use Rattle.qsg_peers.specs.declared.work.SystemWork.TheVariants.{Recovery};
+ghost use Rattle.qsg_peers.specs.Works.{IsSound, MayStep, takes_memory, reading_of};
 ghost use Rattle.qsg_peers.specs.Peers.{new_peer, ended_peer, in_hand, told, after_turn, Steps};
+ghost use Rattle.qsg_peers.specs.Choosing.{to_recover, has_work, begun_peer, begins_recovery};
 
+use crate::work::SystemWork;
+use qsg_cleaning::{CleaningWork, first_to_clean, has_cleaning};
 use qsg_disk::Disk;
-use qsg_num::{Incarnation, LogWhy, Member, Names};
+use qsg_num::{Incarnation, Member, Names};
 use qsg_parts::Parts;
 use qsg_peer::{FailedLife, NoMemory, PeerTurn, PeerWork};
 use qsg_requests::{Answer, Reason, Reply, Transcript, Verb};
@@ -20,12 +24,12 @@ use std::mem;
 #[derive(Drop)]
 pub(crate) struct Peer {
     /// The work that it has in hand.
-    pub work: Option<PeerWork>,
+    pub work: Option<SystemWork>,
     /// The incarnations that it has given up since its member last came up.
     pub given_up: Names,
-    /// While a work is in hand these are the same, with room for one more.
+    /// While a recovery is in hand these are the same, with room for one more.
     pub spare: Vec<(Member, Incarnation)>,
-    /// Its answers, with room for one more while a work is in hand.
+    /// Its answers, with room for one more while a recovery is in hand.
     pub answers: Transcript,
 }
 
@@ -40,7 +44,7 @@ fn with_room(alloc: Global, names: &Names) -> Result<Vec<(Member, Incarnation)>,
 }
 
 impl Peer {
-    ghost use Rattle.qsg_peers.specs.Rooms.{peer_in, HasRoom, IsReady};
+    ghost use Rattle.qsg_peers.specs.Rooms.{peer_in, HasRoomFor, IsReady};
 
     /// A system task that has done nothing. Takes no memory.
     pub fn new(alloc: Global) -> Peer
@@ -57,7 +61,7 @@ impl Peer {
 
     /// What its work keeps, if it has one in hand.
     pub fn kept(&self)
-        ensures { IfSome self.now.work (λ work. IsSound work.phase work.walk) }
+        ensures { IfSome self.now.work IsSound }
     {
         if let Some(work) = &self.work {
             work.kept();
@@ -74,17 +78,58 @@ impl Peer {
         }
     }
 
-    /// Takes a new work in hand, with room for its answer and for one more incarnation that is given up.
-    pub fn begin(&mut self, alloc: Global, member: Member) -> Result<(), AllocError>
+    /// Whether there is an incarnation to recover: one that failed, is unresolved, and wasn't given up.
+    fn finds_failed<D: Disk>(&self, parts: &Parts<D>) -> bool
+        ensures { result ≡ is_some (to_recover (peer_in self.now) (owned parts.now)) }
+    {
+        parts.repo.first_failed(&self.given_up).is_some()
+    }
+
+    /// Whether it has a work in hand, or there is one to do: an incarnation to recover, or an entry to clean.
+    pub fn has_work<D: Disk>(&self, parts: &Parts<D>, member: Member) -> bool
+        ensures { result ≡ has_work member (peer_in self.now) (owned parts.now) }
+    {
+        self.work.is_some() || self.finds_failed(parts) || has_cleaning(parts, member)
+    }
+
+    /// Takes the next work in hand, unless there is one: a recovery comes before a cleaning. NoMemory only where a recovery
+    /// is to begin; it changes nothing.
+    pub fn begin<D: Disk>(
+        &mut self,
+        alloc: Global,
+        parts: &Parts<D>,
+        member: Member,
+    ) -> Result<(), AllocError>
         requires ready { IsReady self.old }
-        ensures begun { OnOk result (peer_in self.new ≡ in_hand (new_work member) (peer_in self.old)) }
+        ensures begun { OnOk result (peer_in self.new ≡ begun_peer member (owned parts.now) (peer_in self.old)) }
+        ensures unchanged { OnErr result (peer_in self.new ≡ peer_in self.old) }
+        ensures memory { OnErr result (begins_recovery (peer_in self.old) (owned parts.now) ≡ true) }
+        ensures ready { IsReady self.new }
+    {
+        if self.work.is_some() {
+            return Ok(());
+        }
+        if self.finds_failed(parts) {
+            return self.recover(alloc, member);
+        }
+        if let Some(structure) = first_to_clean(parts, member) {
+            let work = CleaningWork::begin(member, structure);
+            self.work = Some(SystemWork::Cleaning(work));
+        }
+        Ok(())
+    }
+
+    /// Takes a recovery in hand, with room for its answer and for one more incarnation that is given up.
+    fn recover(&mut self, alloc: Global, member: Member) -> Result<(), AllocError>
+        requires ready { IsReady self.old }
+        ensures begun { OnOk result (peer_in self.new ≡ in_hand (Recovery (new_work member)) (peer_in self.old)) }
         ensures unchanged { OnErr result (peer_in self.new ≡ peer_in self.old) }
         ensures ready { IsReady self.new }
     {
         let spare = with_room(alloc, &self.given_up)?;
         self.answers.reserve(1)?;
         self.spare = spare;
-        self.work = Some(PeerWork::begin(alloc, member));
+        self.work = Some(SystemWork::Recovery(PeerWork::begin(alloc, member)));
         Ok(())
     }
 
@@ -98,9 +143,9 @@ impl Peer {
     ) -> Result<Option<FailedLife>, NoMemory>
         requires ready { IsReady self.old }
         requires busy { IsSome self.old.work }
-        requires may { (work : Work) → self.old.work ≡ Some work → MayStepAt work.phase (owned parts.old) }
-        ensures steps { (work : Work) → self.old.work ≡ Some work → Steps at work (owned parts.old) result (peer_in self.old) (peer_in self.new) (owned parts.new) }
-        ensures memory { (work : Work) → self.old.work ≡ Some work → OnErr result (takes_memory work ≡ true) }
+        requires may { (work : SystemWork) → self.old.work ≡ Some work → MayStep work (owned parts.old) }
+        ensures steps { (work : SystemWork) → self.old.work ≡ Some work → Steps at work (owned parts.old) result (peer_in self.old) (peer_in self.new) (owned parts.new) }
+        ensures memory { (work : SystemWork) → self.old.work ≡ Some work → OnErr result (takes_memory work ≡ true) }
         ensures unmade { OnErr result ((peer_in self.new ≡ peer_in self.old) × (owned parts.new ≡ owned parts.old)) }
         ensures ready { IsReady self.new }
     {
@@ -117,9 +162,10 @@ impl Peer {
 
     /// What a step makes of the work in hand.
     fn end(&mut self, alloc: Global, turn: PeerTurn, at: u64)
-        requires room { HasRoom self.old }
+        requires ready { IsReady self.old }
+        requires room { HasRoomFor turn self.old }
         requires busy { IsSome self.old.work }
-        ensures after { (work : Work) → self.old.work ≡ Some work → peer_in self.new ≡ after_turn at turn work (peer_in self.old) }
+        ensures after { (work : SystemWork) → self.old.work ≡ Some work → peer_in self.new ≡ after_turn at turn work (peer_in self.old) }
         ensures ready { IsReady self.new }
     {
         match turn {

@@ -3,10 +3,10 @@
 ghost use Rattle.std.specs.Prelude.{◌≡◌, true, length, replicate, IfOk, IfSome, OnOk, OnErr, Some, IsSome, is_some};
 ghost use Rattle.std.specs.Option.{option_and_then};
 ghost use Rattle.qsg_parts.specs.Owned.{owned};
-ghost use Rattle.qsg_peer.specs.Needs.{MayStepAt, takes_memory};
-ghost use Rattle.qsg_peer.specs.Reading.{reading_of};
-ghost use Rattle.qsg_peer.specs.Works.{Work, IsSound, new_work};
-ghost use Rattle.qsg_peers.specs.Peers.{new_peer, peer_of, with_peer, ended_peer, in_hand, Steps};
+ghost use Rattle.qsg_peers.specs.declared.work.SystemWork.{SystemWork};
+ghost use Rattle.qsg_peers.specs.Works.{IsSound, MayStep, takes_memory, reading_of};
+ghost use Rattle.qsg_peers.specs.Peers.{new_peer, peer_of, with_peer, ended_peer, Steps};
+ghost use Rattle.qsg_peers.specs.Choosing.{has_work, begun_peer, begins_recovery};
 
 use crate::peer::Peer;
 use qsg_disk::Disk;
@@ -57,7 +57,7 @@ impl Peers {
 
     /// What the work of a member's system task keeps, if it has one in hand.
     pub fn work_is_kept(&self, member: Member)
-        ensures { IfSome (peer_of member self.now).work (λ work. IsSound work.phase work.walk) }
+        ensures { IfSome (peer_of member self.now).work IsSound }
     {
         self.items[member.index()].kept();
     }
@@ -90,12 +90,29 @@ impl Peers {
         self.items[member.index()].reading()
     }
 
-    /// Takes a new work in hand, with room for its answer and for one more incarnation that is given up.
-    pub fn begin(&mut self, alloc: Global, member: Member) -> Result<(), AllocError>
-        ensures begun { OnOk result (self.new ≡ with_peer member (in_hand (new_work member) (peer_of member self.old)) self.old) }
-        ensures unchanged { OnErr result (self.new ≡ self.old) }
+    /// Whether the system task of a member has a work in hand, or there is one to do: an incarnation that failed, is
+    /// unresolved and wasn't given up, or an entry of an active structure that was removed and whose body stands in the
+    /// member's data set.
+    pub fn has_work<D: Disk>(&self, parts: &Parts<D>, member: Member) -> bool
+        ensures { result ≡ has_work member (peer_of member self.now) (owned parts.now) }
     {
-        self.items[member.index()].begin(alloc, member)
+        self.items[member.index()].has_work(parts, member)
+    }
+
+    /// Takes the next work in hand, unless there is one: the recovery of such an incarnation, or else the cleaning of such
+    /// an entry in the least structure by number that has one. A recovery has room for its answer and for one more
+    /// incarnation that is given up; NoMemory comes only where one is to begin, and changes nothing.
+    pub fn begin<D: Disk>(
+        &mut self,
+        alloc: Global,
+        parts: &Parts<D>,
+        member: Member,
+    ) -> Result<(), AllocError>
+        ensures begun { OnOk result (self.new ≡ with_peer member (begun_peer member (owned parts.now) (peer_of member self.old)) self.old) }
+        ensures unchanged { OnErr result (self.new ≡ self.old) }
+        ensures memory { OnErr result (begins_recovery (peer_of member self.old) (owned parts.now) ≡ true) }
+    {
+        self.items[member.index()].begin(alloc, parts, member)
     }
 
     /// Makes a step of the work in hand, when the history has `at` items. The incarnation of which it took a mark off. A
@@ -108,10 +125,10 @@ impl Peers {
         at: u64,
     ) -> Result<Option<FailedLife>, NoMemory>
         requires busy { IsSome (peer_of member self.old).work }
-        requires may { (work : Work) → (peer_of member self.old).work ≡ Some work → MayStepAt work.phase (owned parts.old) }
-        ensures steps { (work : Work) → (peer_of member self.old).work ≡ Some work → Steps at work (owned parts.old) result (peer_of member self.old) (peer_of member self.new) (owned parts.new) }
+        requires may { (work : SystemWork) → (peer_of member self.old).work ≡ Some work → MayStep work (owned parts.old) }
+        ensures steps { (work : SystemWork) → (peer_of member self.old).work ≡ Some work → Steps at work (owned parts.old) result (peer_of member self.old) (peer_of member self.new) (owned parts.new) }
         ensures others { self.new ≡ with_peer member (peer_of member self.new) self.old }
-        ensures memory { (work : Work) → (peer_of member self.old).work ≡ Some work → OnErr result (takes_memory work ≡ true) }
+        ensures memory { (work : SystemWork) → (peer_of member self.old).work ≡ Some work → OnErr result (takes_memory work ≡ true) }
         ensures unmade { OnErr result ((self.new ≡ self.old) × (owned parts.new ≡ owned parts.old)) }
     {
         self.items[member.index()].step(alloc, parts, at)

@@ -1,7 +1,12 @@
 pub mod Pages
 pub mod Owning
 pub mod Writes
+pub mod Uses
 pub mod Moves
 pub mod Results
 pub mod Ready
 pub mod Names
+pub mod Calling
+pub mod Listing
+pub mod Actions
+pub mod Bodies

@@ -18,7 +18,8 @@ use Rattle.qsg_requests.specs.declared.words.PutWords.{PutWords}
 use Rattle.qsg_manager.specs.declared.managers.Manager.{Manager}
 use Rattle.qsg_manager.specs.Storage.{with_drawn}
 use Rattle.qsg_manager.specs.Units.{with_name}
-use Rattle.qsg_parts.specs.Owned.{Owned}
+use Rattle.qsg_datasets.specs.Kept.{HasSet}
+use Rattle.qsg_parts.specs.Owned.{Owned, HasDataSets}
 use Rattle.qsg_put.specs.declared.checking.Terms.{Terms}
 use Rattle.qsg_lists.specs.Structures.{ListStructure}
 use Rattle.qsg_put.specs.Steps.{unit_of}
@@ -42,10 +43,10 @@ pub drawn_long : (m : Member) (t : TaskNo) (managers : List Manager) → length 
 drawn_long m t managers = length-set (with_drawn m managers) (member_number m - 1) _ ∙ length-set managers (member_number m - 1) _
 
 -- the parts that it has then
-pub check_ready : (m : Member) (t : TaskNo) (words : PutWords) (u : UnitName) (terms : Terms) (told : Option ℕ) (p q : Owned) → MayCheck m t p → structure_number terms.structure ≤ length p.structures
-    → u ≡ unit_of m t p.managers → told ≡ logged words terms → q.structures ≡ p.structures → length q.managers ≡ length p.managers → q.logs ≡ with_log m (with_reserved u (need_of t told (log_in m p.logs)) (log_in m p.logs)) p.logs
+pub check_ready : (m : Member) (t : TaskNo) (words : PutWords) (u : UnitName) (terms : Terms) (told : Option ℕ) (p q : Owned) → MayCheck m t p → HasDataSets p → structure_number terms.structure ≤ length p.structures
+    → u ≡ unit_of m t p.managers → told ≡ logged words terms → q.structures ≡ p.structures → q.datasets ≡ p.datasets → length q.managers ≡ length p.managers → q.logs ≡ with_log m (with_reserved u (need_of t told (log_in m p.logs)) (log_in m p.logs)) p.logs
     → IsReady m t words u terms q
-check_ready m t words u terms told p q may within u_is told_is structures managers logs =
+check_ready m t words u terms told p q may sets within u_is told_is structures datasets managers logs =
     let log = log_in m p.logs in
     let pages = need_of t told log in
     let one = member_some m in
@@ -54,6 +55,7 @@ check_ready m t words u terms told p q may within u_is told_is structures manage
     let needs : need_of t (logged words terms) log ≡ pages = ap (λ (x : Option ℕ). need_of t x log) (sym told_is) in
     record {
       member = record { manager = omega (arith, managers, may.member.manager); log = omega (arith, long, may.member.log) };
+      set = subst (HasSet m terms.structure) (sym datasets) (record { member = omega (arith, sets.members, may.member.manager); structure = omega (arith, sets.structures m may.member.manager, within) });
       structure = omega (arith, within, ap (λ (l : List ListStructure). length l) structures);
       log = subst (MayReserve u) (sym is) (may_again u pages log (subst (λ (x : UnitName). MayReserve x log) (sym u_is) may.log));
       reserved = subst (λ (l : KeptLog). need_of t (logged words terms) l ≤ pages_for u l.writer.reserved) (sym is)

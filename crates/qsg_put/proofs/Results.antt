@@ -1,5 +1,5 @@
 -- what a put makes, and what it leaves
-use Rattle.std.proofs.Common.{◌≡◌, ℕ, zero, suc, ◌-◌, ◌≤◌, Bool, true, false, List, [], ◌∷◌, length, Option, Some, None, Result, Ok, Err, refl, sym, ap, subst, ◌∙◌, inl, inr, arith}
+use Rattle.std.proofs.Common.{◌≡◌, ℕ, zero, suc, ◌+◌, ◌-◌, ◌≤◌, Bool, true, false, List, [], ◌∷◌, length, Option, Some, None, Result, Ok, Err, refl, sym, ap, subst, ◌∙◌, inl, inr, arith}
 use Rattle.std.specs.Prelude.{slice_set}
 use Rattle.std.proofs.lemmas.List.{get_or-set_same, get_or-set_other}
 use Rattle.std.proofs.lemmas.Bool.{cases_lt}
@@ -8,8 +8,11 @@ use Rattle.qsg_num.specs.declared.seats.Member.TheVariants as members
 use Rattle.qsg_num.specs.declared.seats.TaskNo.{TaskNo}
 use Rattle.qsg_num.specs.declared.ids.EntryId.{EntryId}
 use Rattle.qsg_num.specs.declared.ids.UnitName.{UnitName}
+use Rattle.qsg_num.specs.declared.seats.StructNo.{StructNo}
+use Rattle.qsg_num.specs.declared.words.Failed.{Failed}
 use Rattle.qsg_num.specs.Seats.{member_number, structure_number}
 use Rattle.qsg_lists.specs.declared.parts.Lost.{Lost}
+use Rattle.qsg_lists.specs.declared.parts.Place.{Place}
 use Rattle.qsg_lists.specs.declared.parts.Place.TheVariants.{Inline}
 use Rattle.qsg_lists.specs.declared.parts.Seen.{Seen}
 use Rattle.qsg_lists.specs.declared.parts.WriteWhy.{WriteWhy}
@@ -22,6 +25,7 @@ use Rattle.qsg_logs.specs.Writers.{reserve_answer}
 use Rattle.qsg_repo.specs.Keeping.{keep}
 use Rattle.qsg_objects.specs.declared.registry.Queue.{Queue}
 use Rattle.qsg_objects.specs.Registry.{Registry, queue_named, structure_numbered}
+use Rattle.qsg_offload.specs.declared.rule.Placed.{Placed}
 use Rattle.qsg_offload.specs.declared.rule.Placed.TheVariants.{Inside}
 use Rattle.qsg_requests.specs.declared.words.PutWords.{PutWords}
 use Rattle.qsg_requests.specs.declared.replies.Reason.{Reason}
@@ -35,15 +39,20 @@ use Rattle.qsg_manager.specs.Facilities.{structure_in}
 use Rattle.qsg_manager.specs.Putting.{with_put}
 use Rattle.qsg_manager.specs.Storage.{task_at, with_task}
 use Rattle.qsg_manager.proofs.Grouping.{structure_same, tasks_with}
+use Rattle.qsg_datasets.specs.Kept.{KeptSet}
 use Rattle.qsg_parts.specs.Owned.{Owned}
+use Rattle.qsg_bodies.specs.Using.{with_kept, blocks_in, without_use, use_refusal}
 use Rattle.qsg_put.specs.declared.checking.Terms.{Terms}
+use Rattle.qsg_put.specs.declared.phases.Offload.{Offload}
 use Rattle.qsg_put.specs.declared.phases.Phase.{Phase}
-use Rattle.qsg_put.specs.declared.phases.Phase.TheVariants.{Check, Connect, Write}
+use Rattle.qsg_put.specs.declared.phases.Phase.TheVariants.{Check, Connect, Write, Use, Block, Sync, WriteOutside}
 use Rattle.qsg_put.specs.Checking.{terms_of, recovers, put_refusal, unless_refused, answer_at, check_answer}
 use Rattle.qsg_put.specs.Messages.{no_id, message_of, head_of, logged}
 use Rattle.qsg_put.specs.Works.{Work}
-use Rattle.qsg_put.specs.Steps.{fallen, unit_of, need, has_operations, reason_of, after_reserve, after_check, after_connect, after_refusal, after_write, refusal_of, use_of, with_message, next_at, next_put}
-use Rattle.qsg_put.specs.Outcomes.{AreTermsOf, IsPut, IsSameLog}
+use Rattle.qsg_put.specs.Steps.{Next, fallen, unit_of, need, used, has_operations, reason_of, after_reserve, after_check, after_connect, after_take, after_call, after_refusal, after_write, after_listing_refusal, after_listing, refusal_of, listing_refusal, listed, use_of, with_place, with_message, with_listed_message, NextAt, NextPut}
+use Rattle.qsg_put.specs.Phases.{block_or_sync}
+use Rattle.qsg_put.specs.Outcomes.{AreTermsOf, IsPut, IsSameLog, LeavesAt, LeavesRest}
+use Rattle.qsg_put.proofs.Uses.{IsBeside, beside_use, repo_used}
 
 -- ---- the terms
 
@@ -65,34 +74,69 @@ terms_are objects words operations terms is = terms_at objects words operations 
 task_stored : (m : Member) (t : TaskNo) (y : Task) (ms : List Manager) → IsMember m ms → task_at m t (with_task m t y ms) ≡ y
 task_stored m t y ms member = tasks_with m t y ms member.within member.five m t ∙ task-same m t (λ old. y) (λ a b. task_at a b ms)
 
-put_at : (work : Work) (p : Owned) (u : UnitName) (terms : Terms) (epoch : ℕ) (id : EntryId) (refusal : Option WriteWhy) → IsMember work.member p.managers → structure_number terms.structure ≤ length p.structures
-    → (after_write work.member work.task work.words u terms epoch p refusal).turn ≡ Ended (PutOk id Inside) → IsPut work u terms epoch id p (after_write work.member work.task work.words u terms epoch p refusal).parts
-put_at work p u terms epoch id (Some why.NoMemory) member within is = absurd cc
-put_at work p u terms epoch id (Some (why.Lost lost)) member within is = absurd cc
-put_at work p u terms epoch id (Some (why.Full need free)) member within is = absurd cc
-put_at work p u terms epoch id (Some (why.QueueFull depth)) member within is = absurd cc
-put_at work p u terms epoch id None member within is =
+-- what is written at a place
+put_there : (work : Work) (p q : Owned) (u : UnitName) (terms : Terms) (epoch : ℕ) (place : Place) (id : EntryId) → IsMember work.member p.managers → structure_number terms.structure ≤ length p.structures
+    → next_id (structure_in terms.structure p.structures) ≡ id
+    → q.structures ≡ (with_place work.member work.task work.words u terms epoch place p).structures → q.managers ≡ (with_place work.member work.task work.words u terms epoch place p).managers
+    → IsPut work u terms epoch place id p q
+put_there work p q u terms epoch place id member within next structures managers =
     let s = structure_in terms.structure p.structures in
-    let next : next_id s ≡ id = cc in
     let task = with_put (use_of terms epoch) (message_of work.words terms no_id) (next_id s) (task_at work.member work.task p.managers) in
-    let stored = task_stored work.member work.task task p.managers member in
-    let entries = ap (λ (x : ListStructure). x.entries) (structure_same terms.structure (written s u (head_of work.words terms) (Inline work.words.body)) p.structures within) in
-    subst (λ (n : EntryId). IsPut work u terms epoch n p (with_message work.member work.task work.words u terms epoch p)) next (record {
+    let stored = ap (task_at work.member work.task) managers ∙ task_stored work.member work.task task p.managers member in
+    let there = ap (structure_in terms.structure) structures ∙ structure_same terms.structure (written s u (head_of work.words terms) place) p.structures within in
+    subst (λ (n : EntryId). IsPut work u terms epoch place n p q) next (record {
       next = refl;
-      entry = entries;
+      entry = ap (λ (x : ListStructure). x.entries) there;
       operation = ap (λ (x : Task). x.ops) stored;
       claim = ap (λ (x : Task). x.claims) stored;
     })
 
-put_by : (work : Work) (p : Owned) (u : UnitName) (terms : Terms) (epoch : ℕ) (id : EntryId) (phase : Phase) → IsMember work.member p.managers → structure_number terms.structure ≤ length p.structures
-    → phase ≡ Write u terms epoch → (next_at work.member work.task work.words p phase).turn ≡ Ended (PutOk id Inside) → IsPut work u terms epoch id p (next_at work.member work.task work.words p phase).parts
-put_by work p u terms epoch id phase member within is answered =
-    subst (λ (x : Phase). (next_at work.member work.task work.words p x).turn ≡ Ended (PutOk id Inside) → IsPut work u terms epoch id p (next_at work.member work.task work.words p x).parts) (sym is)
-    (put_at work p u terms epoch id (refusal_of work.words terms epoch p) member within) answered
+-- what an answer PutOk tells
+abbrev Tells : Work → UnitName → Terms → ℕ → Place → (rule : Placed) → Owned → Next → EntryId → Placed → Type 0
+Tells work u terms epoch place rule p next id placed = next.turn ≡ Ended (PutOk id placed) → (placed ≡ rule) × IsPut work u terms epoch place id p next.parts
 
-pub message_is : (work : Work) (p : Owned) (u : UnitName) (terms : Terms) (epoch : ℕ) (id : EntryId) → IsMember work.member p.managers → structure_number terms.structure ≤ length p.structures
-    → work.phase ≡ Write u terms epoch → (next_put work p).turn ≡ Ended (PutOk id Inside) → IsPut work u terms epoch id p (next_put work p).parts
-message_is work p u terms epoch id member within is answered = put_by work p u terms epoch id work.phase member within is answered
+put_at : (work : Work) (p : Owned) (u : UnitName) (terms : Terms) (epoch : ℕ) (id : EntryId) (placed : Placed) (refusal : Option WriteWhy) → IsMember work.member p.managers → structure_number terms.structure ≤ length p.structures
+    → Tells work u terms epoch (Inline work.words.body) Inside p (after_write work.member work.task work.words u terms epoch p refusal) id placed
+put_at work p u terms epoch id placed (Some why.NoMemory) member within is = absurd cc
+put_at work p u terms epoch id placed (Some (why.Lost lost)) member within is = absurd cc
+put_at work p u terms epoch id placed (Some (why.Full need free)) member within is = absurd cc
+put_at work p u terms epoch id placed (Some (why.QueueFull depth)) member within is = absurd cc
+put_at work p u terms epoch id placed None member within is =
+    let next : next_id (structure_in terms.structure p.structures) ≡ id = cc in
+    let rule : placed ≡ Inside = cc in
+    (rule, put_there work p (with_message work.member work.task work.words u terms epoch p) u terms epoch (Inline work.words.body) id member within next refl refl)
+
+list_at : (work : Work) (p : Owned) (way : Offload) (id : EntryId) (placed : Placed) (refusal : Option WriteWhy) → IsMember work.member p.managers → structure_number way.terms.structure ≤ length p.structures
+    → Tells work way.unit way.terms way.epoch (listed work.member work.task work.words.body way p) way.placed p (after_listing work.member work.task work.words way p refusal) id placed
+list_at work p way id placed (Some why.NoMemory) member within is = absurd cc
+list_at work p way id placed (Some (why.Lost lost)) member within is = absurd cc
+list_at work p way id placed (Some (why.Full need free)) member within is = absurd cc
+list_at work p way id placed (Some (why.QueueFull depth)) member within is = absurd cc
+list_at work p way id placed None member within is =
+    let next : next_id (structure_in way.terms.structure p.structures) ≡ id = cc in
+    let rule : placed ≡ way.placed = cc in
+    (rule, put_there work p (with_listed_message work.member work.task work.words way p) way.unit way.terms way.epoch (listed work.member work.task work.words.body way p) id member within next refl refl)
+
+inside_by : (work : Work) (p : Owned) (next : Next) (u : UnitName) (terms : Terms) (epoch : ℕ) (id : EntryId) (placed : Placed) (phase : Phase) → IsMember work.member p.managers → structure_number terms.structure ≤ length p.structures
+    → phase ≡ Write u terms epoch → NextAt work.member work.task work.words p phase next → Tells work u terms epoch (Inline work.words.body) Inside p next id placed
+inside_by work p next u terms epoch id placed phase member within is steps =
+    let as_written : next ≡ after_write work.member work.task work.words u terms epoch p (refusal_of work.words terms epoch p) = subst (λ (x : Phase). NextAt work.member work.task work.words p x next) is steps in
+    subst (λ (n : Next). Tells work u terms epoch (Inline work.words.body) Inside p n id placed) (sym as_written) (put_at work p u terms epoch id placed (refusal_of work.words terms epoch p) member within)
+
+pub inside_is : (work : Work) (p : Owned) (next : Next) (u : UnitName) (terms : Terms) (epoch : ℕ) (id : EntryId) (placed : Placed) → IsMember work.member p.managers → structure_number terms.structure ≤ length p.structures
+    → work.phase ≡ Write u terms epoch → NextPut work p next → Tells work u terms epoch (Inline work.words.body) Inside p next id placed
+inside_is work p next u terms epoch id placed member within is steps = inside_by work p next u terms epoch id placed work.phase member within is steps
+
+outside_by : (work : Work) (p : Owned) (next : Next) (way : Offload) (id : EntryId) (placed : Placed) (phase : Phase) → IsMember work.member p.managers → structure_number way.terms.structure ≤ length p.structures
+    → phase ≡ WriteOutside way → NextAt work.member work.task work.words p phase next → Tells work way.unit way.terms way.epoch (listed work.member work.task work.words.body way p) way.placed p next id placed
+outside_by work p next way id placed phase member within is steps =
+    let as_listed : next ≡ after_listing work.member work.task work.words way p (listing_refusal work.member work.task work.words way p) = subst (λ (x : Phase). NextAt work.member work.task work.words p x next) is steps in
+    subst (λ (n : Next). Tells work way.unit way.terms way.epoch (listed work.member work.task work.words.body way p) way.placed p n id placed) (sym as_listed)
+    (list_at work p way id placed (listing_refusal work.member work.task work.words way p) member within)
+
+pub outside_is : (work : Work) (p : Owned) (next : Next) (way : Offload) (id : EntryId) (placed : Placed) → IsMember work.member p.managers → structure_number way.terms.structure ≤ length p.structures
+    → work.phase ≡ WriteOutside way → NextPut work p next → Tells work way.unit way.terms way.epoch (listed work.member work.task work.words.body way p) way.placed p next id placed
+outside_is work p next way id placed member within is steps = outside_by work p next way id placed work.phase member within is steps
 
 -- ---- what stays
 
@@ -159,9 +203,9 @@ check_left : (m : Member) (t : TaskNo) (words : PutWords) (p : Owned) (answer : 
 check_left m t words p (Err reason) = all_left p
 check_left m t words p (Ok terms) = reserve_left m t words terms p (reserve_answer (unit_of m t p.managers) (need m t words terms p) (keep m p.repo) (log_in m p.logs).writer)
 
-connect_left : (m : Member) (t : TaskNo) (u : UnitName) (terms : Terms) (p : Owned) (answer : Result Seen Lost) → Leaves p (after_connect m t u terms p answer).parts
-connect_left m t u terms p (Err lost) = fall_left m t u p
-connect_left m t u terms p (Ok seen) = all_left p
+connect_left : (m : Member) (t : TaskNo) (body : List ℕ) (u : UnitName) (terms : Terms) (p : Owned) (answer : Result Seen Lost) → Leaves p (after_connect m t body u terms p answer).parts
+connect_left m t body u terms p (Err lost) = fall_left m t u p
+connect_left m t body u terms p (Ok seen) = all_left p
 
 refusal_left : (m : Member) (t : TaskNo) (u : UnitName) (terms : Terms) (epoch : ℕ) (p : Owned) (reason : Option Reason) → Leaves p (after_refusal m t u terms epoch p reason).parts
 refusal_left m t u terms epoch p (Some reason) = fall_left m t u p
@@ -177,10 +221,99 @@ write_left m t words u terms epoch p None = record {
   logs = at_a_log m (with_record_of t (logged words terms)) p.logs (record { tells = refl; bytes = refl; faults = refl; extent = refl; size = refl; next = refl; hand = refl });
 }
 
-left_at : (m : Member) (t : TaskNo) (words : PutWords) (p : Owned) (phase : Phase) → Leaves p (next_at m t words p phase).parts
-left_at m t words p Check = check_left m t words p (check_answer p.objects words (length (task_at m t p.managers).ops))
-left_at m t words p (Connect u terms) = connect_left m t u terms p (connect_answer (structure_in terms.structure p.structures))
-left_at m t words p (Write u terms epoch) = write_left m t words u terms epoch p (refusal_of words terms epoch p)
+-- ---- where the body goes outside
 
-pub rest_left : (work : Work) (p : Owned) → Leaves p (next_put work p).parts
-rest_left work p = left_at work.member work.task work.words p work.phase
+rest_of : (p q : Owned) → Leaves p q → LeavesRest p q
+rest_of p q leaves = record { objects = leaves.objects; history = leaves.history; logs = leaves.logs }
+
+beside_rest : (p q : Owned) → IsBeside p q → LeavesRest p q
+beside_rest p q beside = record {
+  objects = beside.objects;
+  history = beside.history;
+  logs = λ k. subst (λ (l : List KeptLog). IsSameLog (log_in k p.logs) (log_in k l)) (sym beside.logs) (unchanged (log_in k p.logs));
+}
+
+fallen_rest : (m : Member) (t : TaskNo) (u : UnitName) (p q : Owned) → IsBeside p q → LeavesRest p (fallen m t u q)
+fallen_rest m t u p q beside = record {
+  objects = beside.objects;
+  history = beside.history;
+  logs = λ k. subst (λ (l : List KeptLog). IsSameLog (log_in k l) (log_in k (fallen m t u q).logs)) beside.logs ((fall_left m t u q).logs k);
+}
+
+take_rest : (m : Member) (t : TaskNo) (body : List ℕ) (way : Offload) (p : Owned) (refusal : Option Reason) → LeavesRest p (after_take m t body way p refusal).parts
+take_rest m t body way p (Some reason) = fallen_rest m t way.unit p (used m t body way p) (beside_use m t way.terms.structure way.epoch (length body) p)
+take_rest m t body way p None = beside_rest p (used m t body way p) (beside_use m t way.terms.structure way.epoch (length body) p)
+
+take_repo : (m : Member) (t : TaskNo) (body : List ℕ) (way : Offload) (p : Owned) (refusal : Option Reason) → LeavesAt m p (after_take m t body way p refusal).parts (Use way)
+take_repo m t body way p (Some reason) = repo_used m t way.terms.structure way.epoch (length body) p
+take_repo m t body way p None = repo_used m t way.terms.structure way.epoch (length body) p
+
+kept_beside : (m : Member) (s : StructNo) (set : KeptSet) (p : Owned) → IsBeside p (with_kept m s set p)
+kept_beside m s set p = record { structures = refl; managers = refl; logs = refl; objects = refl; history = refl }
+
+given_beside : (m : Member) (t : TaskNo) (s : StructNo) (p : Owned) → IsBeside p (without_use m t s p)
+given_beside m t s p = record { structures = refl; managers = refl; logs = refl; objects = refl; history = refl }
+
+both_beside : (m : Member) (t : TaskNo) (s : StructNo) (set : KeptSet) (p : Owned) → IsBeside p (without_use m t s (with_kept m s set p))
+both_beside m t s set p = record { structures = refl; managers = refl; logs = refl; objects = refl; history = refl }
+
+call_rest : (m : Member) (t : TaskNo) (way : Offload) (now then : Phase) (set : KeptSet) (p : Owned) (result : Result (Unit {0}) Failed)
+    → LeavesRest p (after_call m t way now then (with_kept m way.terms.structure set p) result).parts
+call_rest m t way now then set p (Ok done) = beside_rest p (with_kept m way.terms.structure set p) (kept_beside m way.terms.structure set p)
+call_rest m t way now then set p (Err failed) = fallen_rest m t way.unit p (without_use m t way.terms.structure (with_kept m way.terms.structure set p)) (both_beside m t way.terms.structure set p)
+
+call_repo : (m : Member) (t : TaskNo) (way : Offload) (now then : Phase) (set : KeptSet) (p : Owned) (result : Result (Unit {0}) Failed)
+    → (after_call m t way now then (with_kept m way.terms.structure set p) result).parts.repo ≡ p.repo
+call_repo m t way now then set p (Ok done) = refl
+call_repo m t way now then set p (Err failed) = refl
+
+unlist_rest : (m : Member) (t : TaskNo) (way : Offload) (p : Owned) (reason : Option Reason) → LeavesRest p (after_listing_refusal m t way p reason).parts
+unlist_rest m t way p (Some reason) = fallen_rest m t way.unit p (without_use m t way.terms.structure p) (given_beside m t way.terms.structure p)
+unlist_rest m t way p None = rest_of p p (all_left p)
+
+list_rest : (m : Member) (t : TaskNo) (words : PutWords) (way : Offload) (p : Owned) (refusal : Option WriteWhy) → LeavesRest p (after_listing m t words way p refusal).parts
+list_rest m t words way p (Some why) = unlist_rest m t way p (reason_of why)
+list_rest m t words way p None = record {
+  objects = refl;
+  history = refl;
+  logs = at_a_log m (with_record_of t (logged words way.terms)) p.logs (record { tells = refl; bytes = refl; faults = refl; extent = refl; size = refl; next = refl; hand = refl });
+}
+
+unlist_repo : (m : Member) (t : TaskNo) (way : Offload) (p : Owned) (reason : Option Reason) → (after_listing_refusal m t way p reason).parts.repo ≡ p.repo
+unlist_repo m t way p (Some reason) = refl
+unlist_repo m t way p None = refl
+
+list_repo : (m : Member) (t : TaskNo) (words : PutWords) (way : Offload) (p : Owned) (refusal : Option WriteWhy) → (after_listing m t words way p refusal).parts.repo ≡ p.repo
+list_repo m t words way p (Some why) = unlist_repo m t way p (reason_of why)
+list_repo m t words way p None = refl
+
+-- ---- each step
+
+-- what a step leaves, by its phase
+abbrev Left : Member → Owned → Phase → Next → Type 0
+Left m p phase next = LeavesRest p next.parts × LeavesAt m p next.parts phase
+
+inside_left : (m : Member) (p q : Owned) → Leaves p q → LeavesRest p q × ((q.datasets ≡ p.datasets) × (q.repo ≡ p.repo))
+inside_left m p q leaves = (rest_of p q leaves, (leaves.datasets, leaves.repo))
+
+left_at : (m : Member) (t : TaskNo) (words : PutWords) (p : Owned) (phase : Phase) (next : Next) → NextAt m t words p phase next → Left m p phase next
+left_at m t words p Check next is = subst (Left m p Check) (sym is) (inside_left m p _ (check_left m t words p (check_answer p.objects words (length (task_at m t p.managers).ops))))
+left_at m t words p (Connect u terms) next is = subst (Left m p (Connect u terms)) (sym is) (inside_left m p _ (connect_left m t words.body u terms p (connect_answer (structure_in terms.structure p.structures))))
+left_at m t words p (Write u terms epoch) next is = subst (Left m p (Write u terms epoch)) (sym is) (inside_left m p _ (write_left m t words u terms epoch p (refusal_of words terms epoch p)))
+left_at m t words p (Use way) next is =
+    let refusal = use_refusal m way.terms.structure way.epoch (length words.body) p in
+    subst (Left m p (Use way)) (sym is) (take_rest m t words.body way p refusal, take_repo m t words.body way p refusal)
+left_at m t words p (Block way at) next is =
+    let then = block_or_sync way (at + 1) (length (blocks_in m t way.terms.structure p)) in
+    subst (Left m p (Block way at)) (sym is.next_is) (call_rest m t way (Block way at) then is.set p is.result, call_repo m t way (Block way at) then is.set p is.result)
+left_at m t words p (Sync way) next is =
+    subst (Left m p (Sync way)) (sym is.next_is) (call_rest m t way (Sync way) (WriteOutside way) is.set p is.result, call_repo m t way (Sync way) (WriteOutside way) is.set p is.result)
+left_at m t words p (WriteOutside way) next is =
+    let refusal = listing_refusal m t words way p in
+    subst (Left m p (WriteOutside way)) (sym is) (list_rest m t words way p refusal, list_repo m t words way p refusal)
+
+pub rest_left : (work : Work) (p : Owned) (next : Next) → NextPut work p next → LeavesRest p next.parts
+rest_left work p next is = (left_at work.member work.task work.words p work.phase next is).0
+
+pub leaves_at : (work : Work) (p : Owned) (next : Next) → NextPut work p next → LeavesAt work.member p next.parts work.phase
+leaves_at work p next is = (left_at work.member work.task work.words p work.phase next is).1

@@ -5,7 +5,7 @@ use Rattle.qsg_objects.specs.declared.registry.Queue.{Queue}
 use Rattle.qsg_objects.specs.Registry.{Registry, queue_named, structure_numbered}
 use Rattle.qsg_requests.specs.declared.words.PutWords.{PutWords}
 use Rattle.qsg_requests.specs.declared.replies.Reason.{Reason}
-use Rattle.qsg_requests.specs.declared.replies.Reason.TheVariants.{UnknownObject, PutInhibited, BodyTooLong, PersistentNotAllowed, SyncpointLimit, NotYet}
+use Rattle.qsg_requests.specs.declared.replies.Reason.TheVariants.{UnknownObject, PutInhibited, BodyTooLong, PersistentNotAllowed, SyncpointLimit}
 use Rattle.qsg_put.specs.declared.checking.Terms.{Terms}
 
 -- what the words say, or else the queue's default
@@ -35,7 +35,6 @@ put_refusal words operations queue recovered =
     else if nat_lt queue.definition.maxmsgl (length words.body) then Some BodyTooLong
     else if said_or words.persistent queue.definition.defpsist && not recovered then Some PersistentNotAllowed
     else if nat_le 1000 operations then Some SyncpointLimit
-    else if nat_lt 64512 (length words.body) then Some NotYet
     else None
 
 -- the refusal, or else the terms

@@ -1,5 +1,7 @@
 pub mod Checking
+pub mod Placing
 pub mod Messages
+pub mod Phases
 pub mod Works
 pub mod Steps
 pub mod Needs

@@ -3,6 +3,7 @@ use Rattle.std.specs.Prelude.{ℕ, ◌+◌, length, Option, Some, None, if◌the
 use Rattle.qsg_num.specs.declared.ids.EntryId.{EntryId}
 use Rattle.qsg_msg.specs.declared.message.Message.{Message}
 use Rattle.qsg_lists.specs.declared.parts.Head.{Head}
+use Rattle.qsg_lists.specs.declared.parts.Place.{Place}
 use Rattle.qsg_lists.specs.declared.parts.Place.TheVariants.{Inline}
 use Rattle.qsg_manager.specs.declared.writing.NewEntry.{NewEntry}
 use Rattle.qsg_requests.specs.declared.words.PutWords.{PutWords}
@@ -28,9 +29,12 @@ head_of words terms = record { queue = words.queue; priority = terms.priority; p
 abbrev pub no_id : EntryId
 no_id = record { number = 0 }
 
--- the entry holds the body inside
+-- the entry, with the body at this place
+abbrev pub entry_at : PutWords → Terms → Place → NewEntry
+entry_at words terms place = record { head = head_of words terms; place = place; message = message_of words terms no_id; max_depth = terms.max_depth }
+
 abbrev pub entry_of : PutWords → Terms → NewEntry
-entry_of words terms = record { head = head_of words terms; place = Inline words.body; message = message_of words terms no_id; max_depth = terms.max_depth }
+entry_of words terms = entry_at words terms (Inline words.body)
 
 -- the bytes of the operation's record, where it is logged
 abbrev pub logged : PutWords → Terms → Option ℕ

@@ -1,5 +1,5 @@
 -- what a step of a put needs of the group
-use Rattle.std.specs.Prelude.{◌+◌, ◌^◌, ◌≡◌, ◌<◌, ◌≤◌, false, length, None, IfSome}
+use Rattle.std.specs.Prelude.{ℕ, ◌+◌, ◌^◌, ◌≡◌, ◌<◌, ◌≤◌, false, length, None, IfSome}
 use Rattle.qsg_num.specs.declared.seats.Member.{Member}
 use Rattle.qsg_num.specs.declared.seats.TaskNo.{TaskNo}
 use Rattle.qsg_num.specs.declared.ids.UnitName.{UnitName}
@@ -11,10 +11,15 @@ use Rattle.qsg_requests.specs.declared.words.PutWords.{PutWords}
 use Rattle.qsg_manager.specs.Facilities.{structure_in}
 use Rattle.qsg_manager.specs.Storage.{manager_in, task_at}
 use Rattle.qsg_logs.specs.Kept.{KeptLog, log_in}
+use Rattle.qsg_datasets.specs.Kept.{HasSet, hand_of}
+use Rattle.qsg_blocks.specs.State.{blocks_for}
+use Rattle.qsg_blocks.specs.Laws.{AreWithin}
 use Rattle.qsg_parts.specs.Owned.{Owned, HasMember}
+use Rattle.qsg_bodies.specs.Using.{set_of, blocks_in}
 use Rattle.qsg_put.specs.declared.checking.Terms.{Terms}
+use Rattle.qsg_put.specs.declared.phases.Offload.{Offload}
 use Rattle.qsg_put.specs.declared.phases.Phase.{Phase}
-use Rattle.qsg_put.specs.declared.phases.Phase.TheVariants.{Check, Connect, Write}
+use Rattle.qsg_put.specs.declared.phases.Phase.TheVariants.{Check, Connect, Write, Use, Block, Sync, WriteOutside}
 use Rattle.qsg_put.specs.Works.{Work}
 use Rattle.qsg_put.specs.Steps.{unit_of, need}
 
@@ -37,24 +42,52 @@ pub record MayCheck (m : Member) (t : TaskNo) (p : Owned) : Type 0 where
 pub record IsReady (m : Member) (t : TaskNo) (words : PutWords) (u : UnitName) (terms : Terms) (p : Owned) : Type 0 where
   pub member : HasMember m p
   pub structure : structure_number terms.structure ≤ length p.structures
+  pub set : HasSet m terms.structure p.datasets
   pub log : MayReserve u (log_in m p.logs)
   pub reserved : need m t words terms p ≤ pages_for u (log_in m p.logs).writer.reserved
+
+-- the task has taken the blocks of its body, for the epoch that the connection told
+pub record HasTaken (m : Member) (t : TaskNo) (words : PutWords) (way : Offload) (p : Owned) : Type 0 where
+  pub epoch : (hand_of t (set_of m way.terms.structure p)).epoch ≡ way.epoch
+  pub enough : length (blocks_in m t way.terms.structure p) ≡ blocks_for (set_of m way.terms.structure p).contents.block_size (length words.body)
+  pub within : AreWithin (set_of m way.terms.structure p).contents.blocks (blocks_in m t way.terms.structure p)
+
+pub record IsTaken (m : Member) (t : TaskNo) (words : PutWords) (way : Offload) (p : Owned) : Type 0 where
+  pub ready : IsReady m t words way.unit way.terms p
+  pub taken : HasTaken m t words way p
+
+-- a block is left that isn't written
+pub record MayWriteBlock (m : Member) (t : TaskNo) (words : PutWords) (way : Offload) (at : ℕ) (p : Owned) : Type 0 where
+  pub taken : IsTaken m t words way p
+  pub left : at < length (blocks_in m t way.terms.structure p)
 
 -- what a put that goes on keeps, until it is answered
 abbrev pub IsReadyAt : Member → TaskNo → PutWords → Owned → Phase → Type 0
 IsReadyAt m t words p Check = Unit {0}
 IsReadyAt m t words p (Connect u terms) = IsReady m t words u terms p
 IsReadyAt m t words p (Write u terms epoch) = IsReady m t words u terms p
+IsReadyAt m t words p (Use way) = IsReady m t words way.unit way.terms p
+IsReadyAt m t words p (Block way at) = MayWriteBlock m t words way at p
+IsReadyAt m t words p (Sync way) = IsTaken m t words way p
+IsReadyAt m t words p (WriteOutside way) = IsTaken m t words way p
 
 -- an id is left besides
 pub record MayWrite (m : Member) (t : TaskNo) (words : PutWords) (u : UnitName) (terms : Terms) (p : Owned) : Type 0 where
   pub ready : IsReady m t words u terms p
   pub left : (structure_in terms.structure p.structures).last + 1 < 2 ^ 40
 
+pub record MayWriteOutside (m : Member) (t : TaskNo) (words : PutWords) (way : Offload) (p : Owned) : Type 0 where
+  pub taken : IsTaken m t words way p
+  pub left : (structure_in way.terms.structure p.structures).last + 1 < 2 ^ 40
+
 abbrev pub MayStepAt : Member → TaskNo → PutWords → Owned → Phase → Type 0
 MayStepAt m t words p Check = MayCheck m t p
 MayStepAt m t words p (Connect u terms) = IsReady m t words u terms p
 MayStepAt m t words p (Write u terms epoch) = MayWrite m t words u terms p
+MayStepAt m t words p (Use way) = IsReady m t words way.unit way.terms p
+MayStepAt m t words p (Block way at) = MayWriteBlock m t words way at p
+MayStepAt m t words p (Sync way) = IsTaken m t words way p
+MayStepAt m t words p (WriteOutside way) = MayWriteOutside m t words way p
 
 abbrev pub MayStep : Work → Owned → Type 0
 MayStep work p = MayStepAt work.member work.task work.words p work.phase

@@ -5,7 +5,7 @@ use Rattle.qsg_num.specs.declared.seats.TaskNo.{TaskNo}
 use Rattle.qsg_num.specs.declared.ids.UnitName.{UnitName}
 use Rattle.qsg_requests.specs.declared.words.PutWords.{PutWords}
 use Rattle.qsg_put.specs.declared.phases.Phase.{Phase}
-use Rattle.qsg_put.specs.declared.phases.Phase.TheVariants.{Check, Connect, Write}
+use Rattle.qsg_put.specs.declared.phases.Phase.TheVariants.{Check, Connect, Write, Use, Block, Sync, WriteOutside}
 
 -- whose put it is, what it says, and how far it has come
 pub record Work : Type 0 where
@@ -14,12 +14,16 @@ pub record Work : Type 0 where
   pub words : PutWords
   pub phase : Phase
 
--- a put that was checked is by a unit of the member, and its body fits into an entry
-pub record IsChecked (m : Member) (u : UnitName) (body : List ℕ) : Type 0 where
+-- the unit of a put that was checked is one of the member; a body inside fits into an entry
+pub record IsInside (m : Member) (u : UnitName) (body : List ℕ) : Type 0 where
   pub own : u.member ≡ m
   pub inside : length body ≤ 64512
 
 abbrev pub IsSound : Member → List ℕ → Phase → Type 0
 IsSound m body Check = Unit {0}
-IsSound m body (Connect u terms) = IsChecked m u body
-IsSound m body (Write u terms epoch) = IsChecked m u body
+IsSound m body (Connect u terms) = u.member ≡ m
+IsSound m body (Write u terms epoch) = IsInside m u body
+IsSound m body (Use way) = way.unit.member ≡ m
+IsSound m body (Block way at) = way.unit.member ≡ m
+IsSound m body (Sync way) = way.unit.member ≡ m
+IsSound m body (WriteOutside way) = way.unit.member ≡ m

@@ -4,7 +4,7 @@ ghost use Rattle.std.specs.Prelude.{◌≡◌, ◌≤◌, IfOk, length};
 ghost use Rattle.qsg_objects.specs.Registry.{structure_numbered};
 ghost use Rattle.qsg_num.specs.Seats.{structure_number};
 
-use qsg_num::{INLINE_BODY, Priority, StructNo, UNIT_OPERATIONS};
+use qsg_num::{Priority, StructNo, UNIT_OPERATIONS};
 use qsg_objects::{Objects, Queue};
 use qsg_requests::{PutWords, Reason};
 
@@ -61,8 +61,6 @@ fn put_refusal(
         Some(Reason::PersistentNotAllowed)
     } else if operations >= UNIT_OPERATIONS {
         Some(Reason::SyncpointLimit)
-    } else if words.body.len() > INLINE_BODY {
-        Some(Reason::NotYet)
     } else {
         None
     }
@@ -71,7 +69,6 @@ fn put_refusal(
 /// Checks the words of a put by a unit of so many operations.
 pub fn check(objects: &Objects, words: &PutWords, operations: usize) -> Result<Terms, Reason>
     ensures answer { result ≡ check_answer objects.now words.now operations }
-    ensures inside { IfOk result (λ c. length words.now.body ≤ INLINE_BODY) }
     ensures within { IfOk result (λ c. structure_number c.structure ≤ length objects.now.structures) }
 {
     let Some(queue) = objects.queue(words.queue.as_str()) else {

@@ -49,6 +49,14 @@ fn message_of(words: &PutWords, terms: Terms) -> Result<Message, AllocError>
     })
 }
 
+/// What the message says of itself, and the message, with a copy of its body.
+pub fn described(words: &PutWords, terms: Terms) -> Result<(Head, Message), AllocError>
+    ensures head { IfOk result (λ d. d.0 ≡ head_of words.now terms) }
+    ensures message { IfOk result (λ d. d.1 ≡ message_of words.now terms no_id) }
+{
+    Ok((head_of(words, terms)?, message_of(words, terms)?))
+}
+
 /// What a put writes: its body inside the entry, and the message of the unit's operation. Each has a copy of the body.
 pub fn entry_of(alloc: Global, words: &PutWords, terms: Terms) -> Result<NewEntry, AllocError>
     requires inside { length words.now.body ≤ INLINE_BODY }

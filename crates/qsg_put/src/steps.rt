@@ -2,21 +2,25 @@
 
 ghost use Rattle.std.specs.Prelude.{◌≡◌, ◌≤◌, IfOk, IfErr, OnOk, OnErr, None, length};
 ghost use Rattle.qsg_logpage.specs.Reserved.{pages_for};
+ghost use Rattle.qsg_lists.specs.Structures.{connect_answer};
 ghost use Rattle.qsg_lists.specs.Writing.{next_id};
 ghost use Rattle.qsg_manager.specs.Facilities.{structure_in};
 ghost use Rattle.qsg_manager.specs.Putting.{IsRefused};
+ghost use Rattle.qsg_manager.specs.Storage.{task_at};
 ghost use Rattle.qsg_logs.specs.Kept.{log_in, need_of};
 ghost use Rattle.qsg_num.specs.Seats.{member_number};
-ghost use Rattle.qsg_parts.specs.Owned.{owned, HasMember, HasStructures};
+ghost use Rattle.qsg_parts.specs.Owned.{owned, HasMember, HasStructures, HasDataSets};
 ghost use Rattle.qsg_requests.specs.declared.replies.Turn.TheVariants as turns;
 ghost use Rattle.qsg_put.specs.declared.phases.Phase.TheVariants as phase;
-ghost use Rattle.qsg_put.specs.Steps.{fallen, unit_of, stepped, next_at, reason_of, refusal_of, with_entry};
-ghost use Rattle.qsg_put.specs.Works.{IsChecked, IsSound};
+ghost use Rattle.qsg_put.specs.Steps.{fallen, unit_of, stepped, after_check, after_connect, after_write, reason_of, refusal_of, with_entry};
+ghost use Rattle.qsg_put.specs.Checking.{check_answer};
+ghost use Rattle.qsg_put.specs.Works.{IsSound};
 ghost use Rattle.qsg_put.specs.Needs.{MayReserve, MayCheck, IsReady, IsReadyAt, MayWrite};
 
 use crate::checking::{Terms, check};
 use crate::messages::{entry_of, logged};
 use crate::phases::Phase;
+use crate::placing::after_connection;
 use qsg_disk::Disk;
 use qsg_lists::{Connection, WriteWhy};
 use qsg_logs::what_is_reserved_fits;
@@ -54,9 +58,9 @@ pub fn check_and_reserve<D: Disk>(
     words: &PutWords,
 ) -> Result<Phase, Reason>
     requires may { MayCheck member task (owned parts.old) }
-    ensures next { stepped result phase.Check (owned parts.new) ≡ next_at member task words.now (owned parts.old) phase.Check }
+    ensures next { stepped result phase.Check (owned parts.new) ≡ after_check member task words.now (owned parts.old) (check_answer parts.old.objects words.now (length (task_at member task parts.old.managers).ops)) }
     ensures sound { IfOk result (λ phase. IsSound member words.now.body phase) }
-    ensures ready { HasStructures (owned parts.old) → IfOk result (λ phase. IsReadyAt member task words.now (owned parts.new) phase) }
+    ensures ready { HasStructures (owned parts.old) → HasDataSets (owned parts.old) → IfOk result (λ phase. IsReadyAt member task words.now (owned parts.new) phase) }
     ensures structures { parts.new.structures ≡ parts.old.structures }
 {
     let operations = parts.managers.operations(member, task);
@@ -81,7 +85,7 @@ pub fn check_and_reserve<D: Disk>(
 }
 
 /// Makes what is reserved for a unit what it needs without this put.
-fn fall_back<D: Disk>(parts: &mut Parts<D>, member: Member, task: TaskNo, unit: UnitName)
+pub fn fall_back<D: Disk>(parts: &mut Parts<D>, member: Member, task: TaskNo, unit: UnitName)
     requires member { HasMember member (owned parts.old) }
     requires log { MayReserve unit (log_in member parts.old.logs) }
     requires less { need_of task None (log_in member parts.old.logs) ≤ pages_for unit (log_in member parts.old.logs).writer.reserved }
@@ -101,17 +105,13 @@ pub fn connect<D: Disk>(
     terms: Terms,
 ) -> Result<Phase, Reason>
     requires ready { IsReady member task words.now unit terms (owned parts.old) }
-    ensures next { stepped result (phase.Connect unit terms) (owned parts.new) ≡ next_at member task words.now (owned parts.old) (phase.Connect unit terms) }
-    ensures sound { IsChecked member unit words.now.body → IfOk result (λ phase. IsSound member words.now.body phase) }
+    ensures next { stepped result (phase.Connect unit terms) (owned parts.new) ≡ after_connect member task words.now.body unit terms (owned parts.old) (connect_answer (structure_in terms.structure parts.old.structures)) }
+    ensures sound { unit.member ≡ member → IfOk result (λ phase. IsSound member words.now.body phase) }
     ensures ready { IfOk result (λ phase. IsReadyAt member task words.now (owned parts.new) phase) }
     ensures structures { parts.new.structures ≡ parts.old.structures }
 {
     match parts.structures.connect(terms.structure) {
-        Ok(seen) => Ok(Phase::Write {
-            unit,
-            terms,
-            epoch: seen.connection.epoch,
-        }),
+        Ok(seen) => Ok(after_connection(&parts.objects, &words.body, unit, terms, &seen)),
         Err(_) => {
             fall_back(parts, member, task, unit);
             Err(Reason::StructureFailed)
@@ -120,7 +120,7 @@ pub fn connect<D: Disk>(
 }
 
 /// The reason of a write that was refused; None where memory was wanting.
-fn reason_of(why: WriteWhy) -> Option<Reason>
+pub fn reason_of(why: WriteWhy) -> Option<Reason>
     ensures { result ≡ reason_of why }
 {
     match why {
@@ -186,7 +186,7 @@ pub fn write<D: Disk>(
 ) -> Result<Turn, AllocError>
     requires inside { length words.now.body ≤ INLINE_BODY }
     requires may { MayWrite unit.member task words.now unit terms (owned parts.old) }
-    ensures next { IfOk result (λ turn. record { turn = turn; phase = phase.Write unit terms epoch; parts = owned parts.new } ≡ next_at unit.member task words.now (owned parts.old) (phase.Write unit terms epoch)) }
+    ensures next { IfOk result (λ turn. record { turn = turn; phase = phase.Write unit terms epoch; parts = owned parts.new } ≡ after_write unit.member task words.now unit terms epoch (owned parts.old) (refusal_of words.now terms epoch (owned parts.old))) }
     ensures ends { IfOk result (λ turn. turn ≡ turns.More → ⊥) }
     ensures unchanged { OnErr result (parts.new ≡ parts.old) }
 {

@@ -1,6 +1,6 @@
 //! The check of a put at each of its refusals, and its steps.
 
-ghost use Rattle.std.specs.Prelude.{◌≡◌, ◌≤◌, None, IfOk, IfSome, length};
+ghost use Rattle.std.specs.Prelude.{◌≡◌, ◌≤◌, ◌+◌, ◌*◌, None, IfOk, IfSome, length};
 ghost use Rattle.qsg_num.specs.declared.seats.Member.TheVariants as member;
 ghost use Rattle.qsg_num.specs.declared.seats.StructNo.{StructNo as AStructure};
 ghost use Rattle.qsg_num.specs.declared.seats.TaskNo.TheVariants as task;
@@ -8,20 +8,23 @@ ghost use Rattle.qsg_logs.specs.Kept.{log_in};
 ghost use Rattle.qsg_logs.specs.Writers.{new_writer};
 ghost use Rattle.qsg_manager.specs.Facilities.{structure_in};
 ghost use Rattle.qsg_manager.specs.Storage.{manager_in, task_at};
-ghost use Rattle.qsg_parts.specs.Owned.{owned, HasStructures};
+ghost use Rattle.qsg_disk_mem.specs.Mem.{cells_in};
+ghost use Rattle.qsg_datasets.specs.Kept.{sets_of};
+ghost use Rattle.qsg_parts.specs.Owned.{owned, HasStructures, HasDataSets};
 ghost use Rattle.qsg_put.specs.Needs.{MayCheck, IsReady};
 
 use crate::steps::{check_and_reserve, connect, write};
 use crate::{Phase, PutWork, Terms, check};
-use qsg_datasets::DataSets;
+use qsg_dataset::DataSet;
+use qsg_datasets::{DataSets, MemberDataSet, MemberDataSets};
 use qsg_disk_mem::MemDisk;
 use qsg_lists::Structure;
 use qsg_logs::{Logs, MemberLog};
 use qsg_manager::{Manager, Managers, Structures, Tasks};
 use qsg_model::History;
 use qsg_num::{
-    Body, Bytes, Delivery, EntryId, Incarnation, Member, Name, Priority, QueueName, Rules,
-    StructNo, TaskNo, UnitName,
+    Body, Bytes, Delivery, EntryId, INLINE_BODY, Incarnation, Member, Name, Priority, QueueName,
+    Rules, StructNo, TaskNo, UnitName,
 };
 use qsg_objects::{CfstructDef, Definition, Objects, QlocalDef};
 use qsg_offload::Placed;
@@ -76,8 +79,8 @@ fn queue(
     }))
 }
 
-/// Queues Q1, CLOSED, and FULL for no message, on a structure that is recovered, and Q2 on one that isn't. But for
-/// CLOSED they are for bodies of up to 100,000 bytes.
+/// Queues Q1, CLOSED, FULL for no message, and LONG, on a structure that is recovered, and Q2 on one that isn't. But for
+/// CLOSED and LONG they are for bodies of up to 100,000 bytes.
 fn objects(alloc: Global) -> Result<Objects, Fail> {
     let mut objects = Objects::new(alloc);
     objects.define(structure(alloc, "APP1", true)?)?;
@@ -86,6 +89,7 @@ fn objects(alloc: Global) -> Result<Objects, Fail> {
     objects.define(queue(alloc, "Q2", "APP2", true, 100_000, 2)?)?;
     objects.define(queue(alloc, "CLOSED", "APP1", false, 0, 2)?)?;
     objects.define(queue(alloc, "FULL", "APP1", true, 100_000, 0)?)?;
+    objects.define(queue(alloc, "LONG", "APP1", true, 200_000, 2)?)?;
     Ok(objects)
 }
 
@@ -143,9 +147,10 @@ fn refusals_of_persistence_and_of_the_unit(rt: HostRuntime) -> Result<(), Fail> 
 }
 
 #[test]
-fn bodies_at_their_limit(rt: HostRuntime) -> Result<(), Fail> {
+fn bodies_of_every_length_pass(rt: HostRuntime) -> Result<(), Fail> {
     assert_eq!(rt; ending(rt, "Q1", 64_512, None, 0)?, None);
-    assert_eq!(rt; ending(rt, "Q1", 64_513, None, 0)?, Some(Reason::NotYet));
+    assert_eq!(rt; ending(rt, "Q1", 64_513, None, 0)?, None);
+    assert_eq!(rt; ending(rt, "Q1", 100_000, None, 0)?, None);
     Ok(())
 }
 
@@ -217,17 +222,52 @@ fn logs(alloc: Global) -> Result<Logs<MemDisk>, AllocError>
     Ok(Logs::from_vec(items))
 }
 
-/// A group of these.
-fn parts(alloc: Global, lost: bool) -> Result<Parts<MemDisk>, Fail>
+/// A device with room for a header and so many blocks of 32,768 bytes. Calls of these numbers fail.
+fn device(alloc: Global, blocks: u32, failing: &[u32]) -> Result<MemDisk, AllocError>
+    requires { blocks ≤ 10 }
+    ensures { IfOk result (λ d. length (cells_in d) ≡ 4096 + blocks * 32768) }
+{
+    let failing = Vec::from_slice(alloc, failing)?;
+    MemDisk::new(alloc, 4_096 + blocks * 32_768, failing)
+}
+
+/// A data set of so many blocks.
+fn data_set(
+    alloc: Global,
+    blocks: u32,
+    failing: &[u32],
+) -> Result<MemberDataSet<MemDisk>, AllocError>
+    requires { (1 ≤ blocks) × (blocks ≤ 10) }
+{
+    let device = device(alloc, blocks, failing)?;
+    MemberDataSet::new(alloc, DataSet::new(device, 32_768))
+}
+
+/// The data sets of one member for two structures, the first of four blocks and the second of one.
+fn datasets(alloc: Global, failing: &[u32]) -> Result<DataSets<MemDisk>, AllocError>
+    ensures members { IfOk result (λ d. length d ≡ 1) }
+    ensures structures { IfOk result (λ d. length (sets_of member.One d) ≡ 2) }
+{
+    let mut sets = Vec::new(alloc);
+    sets.push(data_set(alloc, 4, failing)?)?;
+    sets.push(data_set(alloc, 1, &[])?)?;
+    let mut members = Vec::new(alloc);
+    members.push(MemberDataSets::from_vec(sets))?;
+    Ok(DataSets::from_vec(members))
+}
+
+/// A group of these. Calls of these numbers on the first data set fail.
+fn parts(alloc: Global, lost: bool, failing: &[u32]) -> Result<Parts<MemDisk>, Fail>
     ensures may { IfOk result (λ p. MayCheck member.One task.One (owned p)) }
     ensures structures { IfOk result (λ p. HasStructures (owned p)) }
+    ensures datasets { IfOk result (λ p. HasDataSets (owned p)) }
     ensures low { IfOk result (λ p. (n : AStructure) → (structure_in n p.structures).last ≡ 0) }
 {
     Ok(Parts {
         structures: structures(alloc, lost)?,
         managers: managers(alloc)?,
         logs: logs(alloc)?,
-        datasets: DataSets::from_vec(Vec::new(alloc)),
+        datasets: datasets(alloc, failing)?,
         repo: Repo::new(alloc, 1, 2, [true, false, false, false], 1)?,
         objects: few(objects(alloc)?)?,
         history: History::new(alloc),
@@ -236,22 +276,28 @@ fn parts(alloc: Global, lost: bool) -> Result<Parts<MemDisk>, Fail>
 
 /// A put that passed the check.
 #[derive(Drop)]
-struct Passed {
-    parts: Parts<MemDisk>,
-    words: PutWords,
-    unit: UnitName,
-    terms: Terms,
+pub struct Passed {
+    pub parts: Parts<MemDisk>,
+    pub words: PutWords,
+    pub unit: UnitName,
+    pub terms: Terms,
 }
 
 /// A put of so many bytes to a queue, after its check; None where it is refused.
-fn ready(alloc: Global, queue: &str, bytes: usize, lost: bool) -> Result<Option<Passed>, Fail>
+pub fn ready(
+    alloc: Global,
+    queue: &str,
+    bytes: usize,
+    persistent: Option<bool>,
+    lost: bool,
+    failing: &[u32],
+) -> Result<Option<Passed>, Fail>
     ensures ready { IfOk result (λ o. IfSome o (λ r. IsReady member.One task.One r.words r.unit r.terms (owned r.parts))) }
     ensures own { IfOk result (λ o. IfSome o (λ r. r.unit.member ≡ member.One)) }
-    ensures inside { IfOk result (λ o. IfSome o (λ r. length r.words.body ≤ 64512)) }
     ensures low { IfOk result (λ o. IfSome o (λ r. (n : AStructure) → (structure_in n r.parts.structures).last ≡ 0)) }
 {
-    let mut parts = parts(alloc, lost)?;
-    let words = words(alloc, queue, bytes, None)?;
+    let mut parts = parts(alloc, lost, failing)?;
+    let words = words(alloc, queue, bytes, persistent)?;
     match check_and_reserve(alloc, &mut parts, Member::One, TaskNo::One, &words) {
         Ok(Phase::Connect { unit, terms }) => Ok(Some(Passed {
             parts,
@@ -265,9 +311,12 @@ fn ready(alloc: Global, queue: &str, bytes: usize, lost: bool) -> Result<Option<
 
 /// How the write of such a put, in that epoch, ends.
 fn written(alloc: Global, queue: &str, bytes: usize, epoch: u32) -> Result<Option<Reply>, Fail> {
-    let Some(mut put) = ready(alloc, queue, bytes, false)? else {
+    let Some(mut put) = ready(alloc, queue, bytes, None, false, &[])? else {
         return Ok(None);
     };
+    if put.words.body.len() > INLINE_BODY {
+        return Ok(None);
+    }
     match write(
         alloc,
         &mut put.parts,
@@ -292,7 +341,7 @@ fn refusal(reply: Option<Reply>) -> Option<Reason> {
 
 /// How the connection of a put ends: the epoch, or the refusal.
 fn connected(alloc: Global, lost: bool) -> Result<Option<Result<Phase, Reason>>, Fail> {
-    let Some(mut put) = ready(alloc, "Q1", 3, lost)? else {
+    let Some(mut put) = ready(alloc, "Q1", 3, None, lost, &[])? else {
         return Ok(None);
     };
     Ok(Some(connect(
@@ -341,7 +390,7 @@ fn refusals_of_the_structure(rt: HostRuntime) -> Result<(), Fail> {
 
 /// How the first step of a put of so many bytes ends, and the name that the task holds then.
 fn first_step(alloc: Global, bytes: usize) -> Result<(Turn, Option<UnitName>), Fail> {
-    let mut parts = parts(alloc, false)?;
+    let mut parts = parts(alloc, false, &[])?;
     let words = words(alloc, "Q1", bytes, None)?;
     let mut work = PutWork::begin(Member::One, TaskNo::One, words);
     let turn = work.step(alloc, &mut parts)?;

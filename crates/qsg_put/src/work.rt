@@ -4,6 +4,7 @@ ghost use Rattle.std.specs.Prelude.{◌≡◌, IfOk, OnErr};
 ghost use Rattle.qsg_requests.specs.declared.replies.Turn.TheVariants as turns;
 ghost use Rattle.qsg_put.specs.declared.phases.Phase.TheVariants as phase;
 
+use crate::offloading::{sync, take_blocks, write_block, write_outside};
 use crate::phases::Phase;
 use crate::steps::{check_and_reserve, connect, write};
 use qsg_disk::Disk;
@@ -33,8 +34,8 @@ impl Model for PutWork {
 }
 
 impl PutWork {
-    ghost use Rattle.qsg_parts.specs.Owned.{Owned, owned, HasStructures};
-    ghost use Rattle.qsg_put.specs.Steps.{stepped, next_put};
+    ghost use Rattle.qsg_parts.specs.Owned.{Owned, owned, HasStructures, HasDataSets};
+    ghost use Rattle.qsg_put.specs.Steps.{stepped, NextPut};
     ghost use Rattle.qsg_put.specs.Works.{IsSound};
     ghost use Rattle.qsg_put.specs.Needs.{MayStep, IsReadyAt};
 
@@ -68,10 +69,10 @@ impl PutWork {
     /// Makes the next step. A step that ends the put leaves the work as it was; it isn't stepped again.
     pub fn step<D: Disk>(&mut self, alloc: Global, parts: &mut Parts<D>) -> Result<Turn, AllocError>
         requires may { MayStep self.old (owned parts.old) }
-        ensures next { IfOk result (λ turn. record { turn = turn; phase = self.new.phase; parts = owned parts.new } ≡ next_put self.old (owned parts.old)) }
+        ensures next { IfOk result (λ turn. NextPut self.old (owned parts.old) (record { turn = turn; phase = self.new.phase; parts = owned parts.new })) }
         ensures same { self.new ≡ record self.old { phase = self.new.phase } }
-        ensures ready { HasStructures (owned parts.old) → IfOk result (λ turn. turn ≡ turns.More → IsReadyAt self.new.member self.new.task self.new.words (owned parts.new) self.new.phase) }
-        ensures unchanged { OnErr result (parts.new ≡ parts.old) }
+        ensures ready { HasStructures (owned parts.old) → HasDataSets (owned parts.old) → IfOk result (λ turn. turn ≡ turns.More → IsReadyAt self.new.member self.new.task self.new.words (owned parts.new) self.new.phase) }
+        ensures unchanged { OnErr result (owned parts.new ≡ owned parts.old) }
         ensures stays { OnErr result (self.new ≡ self.old) }
     {
         match self.phase {
@@ -86,6 +87,27 @@ impl PutWork {
             Phase::Write { unit, terms, epoch } => {
                 write(alloc, parts, self.task, &self.words, unit, terms, epoch)
             }
+            Phase::Use(way) => {
+                let answer = take_blocks(alloc, parts, self.member, self.task, &self.words, way)?;
+                Ok(self.advance(answer))
+            }
+            Phase::Block(way, at) => {
+                let answer = write_block(
+                    alloc,
+                    parts,
+                    self.member,
+                    self.task,
+                    &self.words,
+                    way,
+                    at,
+                );
+                Ok(self.advance(answer))
+            }
+            Phase::Sync(way) => {
+                let answer = sync(alloc, parts, self.member, self.task, &self.words, way);
+                Ok(self.advance(answer))
+            }
+            Phase::WriteOutside(way) => write_outside(alloc, parts, self.task, &self.words, way),
         }
     }
 }

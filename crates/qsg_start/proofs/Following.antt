@@ -17,8 +17,10 @@ use Rattle.qsg_walk.proofs.Walking.{begun, fed, read_one}
 use Rattle.qsg_start.specs.declared.phases.NoMemory.{NoMemory}
 use Rattle.qsg_start.specs.declared.phases.StartTurn.{StartTurn}
 use Rattle.qsg_start.specs.declared.phases.Phase.{Phase}
-use Rattle.qsg_start.specs.declared.phases.Phase.TheVariants.{Check, Low, Read, Begin}
-use Rattle.qsg_start.specs.Works.{Work, IsSound}
+use Rattle.qsg_start.specs.declared.phases.Phase.TheVariants.{Check, Low, Read, Rebuild, Begin}
+use Rattle.qsg_rebuild.specs.declared.work.RebuildWork.{RebuildWork}
+use Rattle.qsg_start.specs.Works.{Work, IsSound, rebuild_of}
+use Rattle.qsg_start.proofs.Rebuilding.{IsPut, rebuilt_put, rebuilt_walk}
 use Rattle.qsg_start.specs.Steps.{Next, first_walk, HasRead, after_begin, Reads, Acts, GoesOn, NextAt, NextStart}
 use Rattle.qsg_start.specs.Following.{IsFollowed, walks}
 
@@ -48,6 +50,10 @@ set_keeps f [] k x d same = refl
 set_keeps f (y ∷ xs) zero x d same = same
 set_keeps f (y ∷ xs) (suc k) x d same = set_keeps f xs k x d same
 
+-- a data set that was put in its place
+put_same : (x : RebuildWork) (m : Member) (p q : Owned) → IsPut x p q → HasSamePages m p q
+put_same x m p q put = record { size = ap (λ (y : Owned). (log_in m y.logs).writer.size) put.is; bytes = λ tells. ap (λ (y : Owned). (log_in m y.logs).bytes) put.is }
+
 begun_same : (page : PageNo) (w : Work) (p : Owned) (turn : StartTurn) (v : Work) (q : Owned) → record { turn = turn; work = v; parts = q } ≡ after_begin page w p → HasSamePages w.member p q
 begun_same page w p turn v q is = record {
   size = ap (λ (n : Next). (log_in w.member n.parts.logs).writer.size) is
@@ -61,6 +67,8 @@ act_same Check w p result v q is acts = absurd (cc is)
 act_same Low w p result v q is acts = absurd (cc is)
 act_same Read w p (Ok turn) v q is acts = read_same w.member p q acts.0
 act_same Read w p (Err e) v q is acts = absurd acts
+act_same (Rebuild page s r) w p (Ok turn) v q is acts = put_same (rebuild_of w.member s r) w.member p q (rebuilt_put page s r w p turn v q acts)
+act_same (Rebuild page s r) w p (Err e) v q is acts = absurd acts
 act_same (Begin page) w p (Ok turn) v q is acts = begun_same page w p turn v q acts
 act_same (Begin page) w p (Err e) v q is acts = absurd acts
 
@@ -84,6 +92,8 @@ act_walk Check first w p result v q is goes none acts tells follows = absurd (cc
 act_walk Low first w p result v q is goes none acts tells follows = absurd (cc is)
 act_walk Read first w p (Ok turn) v q is goes none acts tells follows = read_walk first w p turn v q (goes refl) none acts tells follows
 act_walk Read first w p (Err e) v q is goes none acts tells follows = absurd acts
+act_walk (Rebuild page s r) first w p (Ok turn) v q is goes none acts tells follows = subst (IsFollowed w.member first p) (sym (rebuilt_walk page s r w p turn v q acts)) follows
+act_walk (Rebuild page s r) first w p (Err e) v q is goes none acts tells follows = absurd acts
 act_walk (Begin page) first w p (Ok turn) v q is goes none acts tells follows = subst (IsFollowed w.member first p) (sym (ap (λ (n : Next). n.work.walk) acts)) follows
 act_walk (Begin page) first w p (Err e) v q is goes none acts tells follows = absurd acts
 
@@ -100,6 +110,7 @@ pub goes_at : (phase : Phase) (w : Work) → IsSound phase w.walk → phase ≡ 
 goes_at Check w sound is = absurd (cc is)
 goes_at Low w sound is = absurd (cc is)
 goes_at Read w sound is = sound.goes_on
+goes_at (Rebuild page s r) w sound is = absurd (cc is)
 goes_at (Begin page) w sound is = absurd (cc is)
 
 -- a step of a START whose walk has begun feeds a page, if one is kept, and acts
@@ -107,6 +118,7 @@ walks_on : (phase : Phase) (w : Work) (p : Owned) (result : Result StartTurn NoM
 walks_on Check w p result v q is next = absurd (cc is)
 walks_on Low w p result v q is next = absurd (cc is)
 walks_on Read w p result v q is next = next
+walks_on (Rebuild page s r) w p result v q is next = next
 walks_on (Begin page) w p result v q is next = next
 
 pub walk_goes_on : (first : ℕ) (w : Work) (p : Owned) (result : Result StartTurn NoMemory) (v : Work) (q : Owned) → walks w.phase ≡ true → IsSound w.phase w.walk → NextStart w p result v q → (log_in w.member p.logs).tells ≡ true

@@ -1,6 +1,11 @@
+pub mod Rebuilding
 pub mod Ending
 pub mod Following
 pub mod Leaving
+pub mod Preparing
 pub mod Making
 pub mod Needing
 pub mod Pacing
+pub mod Grounding
+pub mod Seating
+pub mod Fitting

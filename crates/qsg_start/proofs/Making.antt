@@ -1,5 +1,5 @@
 -- a step that goes on, by what a feed of the page that was kept answers
-use Rattle.std.proofs.Common.{◌≡◌, inl, inr, ◌||◌, Bool, true, false, List, Option, Some, None, Result, Ok, refl, sym, ap, subst}
+use Rattle.std.proofs.Common.{◌≡◌, inl, inr, ◌||◌, Bool, true, false, List, Option, Some, None, Result, Ok, refl, sym, ap, subst, ◌∙◌}
 use Rattle.std.specs.Prelude.{IsSome, is_some, IsErr}
 use Rattle.qsg_logread.specs.declared.fault.FeedError.{FeedError}
 use Rattle.qsg_logread.specs.declared.fault.FeedError.TheVariants as errors
@@ -12,7 +12,7 @@ use Rattle.qsg_start.specs.declared.phases.NoMemory.{NoMemory}
 use Rattle.qsg_start.specs.declared.phases.StartTurn.{StartTurn}
 use Rattle.qsg_start.specs.declared.phases.StartTurn.TheVariants.{Fault}
 use Rattle.qsg_start.specs.declared.phases.Phase.{Phase}
-use Rattle.qsg_start.specs.declared.phases.Phase.TheVariants.{Check, Low, Read, Begin}
+use Rattle.qsg_start.specs.declared.phases.Phase.TheVariants.{Check, Low, Read, Rebuild, Begin}
 use Rattle.qsg_start.specs.Works.{Work}
 use Rattle.qsg_start.specs.Needs.{is_reading, takes_memory}
 use Rattle.qsg_start.specs.Steps.{Acts, GoesOn, NextAt, NextStart}
@@ -22,6 +22,7 @@ goes_at : (phase : Phase) (w : Work) (p : Owned) (result : Result StartTurn NoMe
 goes_at Check w p result v q is goes = absurd (cc is)
 goes_at Low w p result v q is goes = absurd (cc is)
 goes_at Read w p result v q is goes = goes
+goes_at (Rebuild page s r) w p result v q is goes = goes
 goes_at (Begin page) w p result v q is goes = goes
 
 goes_on : (phase : Phase) (w : Work) (p : Owned) (result : Result StartTurn NoMemory) (v : Work) (q : Owned) → walks phase ≡ true → w.phase ≡ phase → GoesOn w p result v q → NextStart w p result v q
@@ -40,12 +41,20 @@ or_some true kept some = refl
 or_some false None some = absurd (cc some)
 or_some false (Some page) some = refl
 
+or_true : (a b : Bool) → a ≡ true → (a || b) ≡ true
+or_true true b is = refl
+or_true false b is = absurd (cc is)
+
 lacking : (phase : Phase) (w : Work) (p : Owned) (result : Result StartTurn NoMemory) (v : Work) (q : Owned) → walks phase ≡ true → w.phase ≡ phase → takes_memory w ≡ true → IsErr result → v ≡ w → q ≡ p → NextStart w p result v q
 lacking phase w p result v q walked is takes refused work parts = goes_on phase w p result v q walked is (inr (inl (record { takes = takes; refused = refused; work_is = work; parts_are = parts })))
 
 -- no room was made for the page that would have been read
 pub roomless : (w : Work) (p : Owned) (result : Result StartTurn NoMemory) (v : Work) (q : Owned) → w.phase ≡ Read → IsErr result → v ≡ w → q ≡ p → NextStart w p result v q
 roomless w p result v q is refused work parts = lacking Read w p result v q refl is (ap (λ (x : Phase). is_reading x || is_some w.walk.kept) is) refused work parts
+
+-- no memory was left for the header of a data set, with no page kept
+pub headerless : (phase : Phase) (w : Work) (p : Owned) (result : Result StartTurn NoMemory) (v : Work) (q : Owned) → walks phase ≡ true → w.phase ≡ phase → is_reading phase ≡ true → IsErr result → v ≡ w → q ≡ p → NextStart w p result v q
+headerless phase w p result v q walked is reads refused work parts = lacking phase w p result v q walked is (or_true (is_reading w.phase) (is_some w.walk.kept) (ap is_reading is ∙ reads)) refused work parts
 
 -- a refused page ends the step, or takes memory
 pub refusing : (phase : Phase) (w : Work) (p : Owned) (refused : FeedError) (result : Result StartTurn NoMemory) (v : Work) (q : Owned) → walks phase ≡ true → w.phase ≡ phase → ((why : LogWhy) → refused ≡ errors.Fault why → IsBad w.walk why) → IsSome w.walk.kept

@@ -6,7 +6,7 @@ use Rattle.qsg_walk.specs.Walks.{Walk}
 use Rattle.qsg_walk.specs.Following.{Follows}
 use Rattle.qsg_parts.specs.Owned.{Owned}
 use Rattle.qsg_start.specs.declared.phases.Phase.{Phase}
-use Rattle.qsg_start.specs.declared.phases.Phase.TheVariants.{Check, Low, Read, Begin}
+use Rattle.qsg_start.specs.declared.phases.Phase.TheVariants.{Check, Low, Read, Rebuild, Begin}
 
 -- the walk follows the member's log from a page on
 abbrev pub IsFollowed : Member → ℕ → Owned → Walk → Type 0
@@ -17,4 +17,5 @@ abbrev pub walks : Phase → Bool
 walks Check = false
 walks Low = false
 walks Read = true
+walks (Rebuild page s r) = true
 walks (Begin page) = true

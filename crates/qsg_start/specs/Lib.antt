@@ -3,3 +3,5 @@ pub mod Needs
 pub mod Steps
 pub mod Following
 pub mod Pace
+pub mod Leaving
+pub mod Fitting

@@ -9,12 +9,13 @@ ghost use Rattle.qsg_parts.specs.Owned.{owned, HasMember};
 ghost use Rattle.qsg_walk.specs.Walks.{after_read};
 ghost use Rattle.qsg_start.specs.Works.{IsReading, IsSound};
 ghost use Rattle.qsg_start.specs.Needs.{MayAskLow, MayBegin};
-ghost use Rattle.qsg_start.specs.Steps.{first_walk, walking, HasRead, started};
+ghost use Rattle.qsg_start.specs.Steps.{first_walk, map_next, walking, HasRead, started};
 
 use crate::phases::Phase;
 use qsg_disk::{Disk, Failed};
-use qsg_num::{Incarnation, Member, PAGE_BYTES, Page, PageNo};
+use qsg_num::{Incarnation, Member, PAGE_BYTES, Page, PageNo, StructNo};
 use qsg_parts::Parts;
+use qsg_rebuild::Phase as RebuildPhase;
 use qsg_walk::Walk;
 use std::alloc::Global;
 
@@ -30,23 +31,43 @@ pub fn first_walk<D: Disk>(alloc: Global, parts: &Parts<D>, member: Member) -> W
     Walk::new(alloc, low, parts.logs.size(member))
 }
 
-/// The walk goes on, or the member comes up next, with its log going on at the next page of the walk.
-pub fn walking(walk: &Walk, next: PageNo) -> Phase
+/// Of so many structures, the map for the one of a number comes next; behind the last one the member comes up.
+pub fn map_next(page: PageNo, count: usize, number: u8) -> Phase
+    ensures { result ≡ map_next page count number }
+{
+    match StructNo::new(number) {
+        Some(structure) => {
+            if usize::from(structure.get()) <= count {
+                Phase::Rebuild {
+                    page,
+                    structure,
+                    phase: RebuildPhase::Connect,
+                }
+            } else {
+                Phase::Begin(page)
+            }
+        }
+        None => Phase::Begin(page),
+    }
+}
+
+/// The walk goes on, or the first map of so many structures comes next, with the log going on at the next page of the walk.
+pub fn walking(walk: &Walk, next: PageNo, count: usize) -> Phase
     requires { next.number ≡ walk.now.next }
-    ensures { result ≡ walking walk.now }
+    ensures { result ≡ walking count walk.now }
 {
     match walk.next() {
         Some(_) => Phase::Read,
-        None => Phase::Begin(next),
+        None => map_next(next, count, 1),
     }
 }
 
 /// Keeps what was read at the next page of a walk. What comes next.
-pub fn keep(walk: &mut Walk, next: PageNo, found: Option<Page>) -> Phase
+pub fn keep(walk: &mut Walk, next: PageNo, found: Option<Page>, count: usize) -> Phase
     requires reading { IsReading walk.old }
     requires next { next.number ≡ walk.old.next }
     ensures kept { walk.new ≡ after_read found walk.old }
-    ensures phase { result ≡ walking walk.new }
+    ensures phase { result ≡ walking count walk.new }
     ensures sound { IsSound result walk.new }
 {
     let after = match &found {
@@ -56,7 +77,7 @@ pub fn keep(walk: &mut Walk, next: PageNo, found: Option<Page>) -> Phase
         None => next,
     };
     walk.keep(found);
-    walking(walk, after)
+    walking(walk, after, count)
 }
 
 /// Reads a page of a member's log, into room for a page. None exactly where none stands there.

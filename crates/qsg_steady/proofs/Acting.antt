@@ -25,7 +25,11 @@ use Rattle.qsg_manager.specs.Storage.{task_in, with_task_in, manager_in, task_at
 use Rattle.qsg_manager.proofs.Grouping.{manager_same, manager_other}
 use Rattle.qsg_logs.specs.Held.{AreHeld}
 use Rattle.qsg_logs.specs.Kept.{KeptLog, log_in, with_log}
-use Rattle.qsg_parts.specs.Owned.{Owned, HasMember}
+use Rattle.qsg_datasets.specs.Kept.{KeptSet}
+use Rattle.qsg_parts.specs.Owned.{Owned, HasMember, HasDataSets}
+use Rattle.qsg_blocks.specs.Changes.{Change as BlocksChange}
+use Rattle.qsg_steady.specs.Standing.{MovesBy}
+use Rattle.qsg_steady.proofs.Sets.{sets_stay}
 use Rattle.qsg_steady.specs.Steady.{tasks_of, IsSeen, IsCounted, IsLawful, IsSteady}
 use Rattle.qsg_steady.proofs.Places.{log_same, log_other, task_sets, latch_same, written_same, writing_with}
 use Rattle.qsg_steady.proofs.Seen.{seen_beside}
@@ -39,9 +43,10 @@ with_kept m rs fillings p = record (log_in m p.logs) { writer = record (log_in m
 abbrev pub tasked : TaskNo → Task → Manager → Manager
 tasked t y x = record x { tasks = with_task_in t y x.tasks }
 
-abbrev pub acts : Member → TaskNo → Task → List ListStructure → List Reservation → List Filling → Owned → Owned
-acts m t y ss rs fillings p = record p {
+abbrev pub acts : Member → TaskNo → Task → List ListStructure → List (List KeptSet) → List Reservation → List Filling → Owned → Owned
+acts m t y ss ds rs fillings p = record p {
   structures = ss;
+  datasets = ds;
   managers = with_task m t y p.managers;
   logs = with_log m (with_kept m rs fillings p) p.logs;
 }
@@ -56,17 +61,26 @@ pub seen_of : (p : Owned) (m : Member) (l : IsLawful p) → HasMember m p → Is
 seen_of p m l has = l.logs m has.manager
 
 -- one member's manager and log are others
-pub beside_at : (p : Owned) (m : Member) (x : Manager) (y : KeptLog) (ss : List ListStructure) → length ss ≡ length p.structures
-    → AreBeside m p (record p { structures = ss; managers = with_manager m x p.managers; logs = with_log m y p.logs })
-beside_at p m x y ss same = record {
+pub beside_sets : (p : Owned) (m : Member) (x : Manager) (y : KeptLog) (ss : List ListStructure) (ds : List (List KeptSet)) → length ss ≡ length p.structures
+    → (HasDataSets p → HasDataSets (record p { structures = ss; datasets = ds; managers = with_manager m x p.managers; logs = with_log m y p.logs }))
+    → AreBeside m p (record p { structures = ss; datasets = ds; managers = with_manager m x p.managers; logs = with_log m y p.logs })
+beside_sets p m x y ss ds same sets = record {
   managers = length-set p.managers (member_number m - 1) x;
   logs = length-set p.logs (member_number m - 1) y;
   structures = same;
-  datasets = refl;
+  datasets = sets;
   objects = refl;
   manager = λ k differ. manager_other m k x p.managers differ;
   log = λ k differ. log_other m k y p.logs differ;
 }
+
+pub beside_at : (p : Owned) (m : Member) (x : Manager) (y : KeptLog) (ss : List ListStructure) → length ss ≡ length p.structures
+    → AreBeside m p (record p { structures = ss; managers = with_manager m x p.managers; logs = with_log m y p.logs })
+beside_at p m x y ss same = beside_sets p m x y ss p.datasets same (sets_stay p (record p { structures = ss; managers = with_manager m x p.managers; logs = with_log m y p.logs }) refl (length-set p.managers (member_number m - 1) x) same)
+
+-- no data set changes
+pub kept_sets : (p : Owned) (m : Member) (t : TaskNo) (y : Task) (ss : List ListStructure) (rs : List Reservation) (fillings : List Filling) → length ss ≡ length p.structures → HasDataSets p → HasDataSets (acts m t y ss p.datasets rs fillings p)
+kept_sets p m t y ss rs fillings same = sets_stay p (acts m t y ss p.datasets rs fillings p) refl (length-set p.managers (member_number m - 1) (tasked t y (manager_in m p.managers))) same
 
 -- which tasks are hardening stays
 pub hardening_same : (t : TaskNo) (y : Task) (x : Manager) → length x.tasks ≡ 5 → is_hardening (task_in t x.tasks).stage ≡ is_hardening y.stage
@@ -111,8 +125,8 @@ none_tasked a b p m s has = record { five = member_five a b p m s has; others = 
 pub named_by : (y : Task) (u : UnitName) → y.unit ≡ Some u → y.unit ≡ None → y ≡ idle
 named_by y u is none = absurd (none-some u (sym none ∙ is))
 
-pub acted : (a b c d : ℕ) (p : Owned) (m : Member) (t : TaskNo) (y : Task) (ss : List ListStructure) (rs : List Reservation) (fillings : List Filling) → IsSteady a b p → HasMember m p
-    → length ss ≡ length p.structures
+pub acted : (a b c d : ℕ) (p : Owned) (m : Member) (t : TaskNo) (y : Task) (ss : List ListStructure) (ds : List (List KeptSet)) (rs : List Reservation) (fillings : List Filling) → IsSteady a b p → HasMember m p
+    → length ss ≡ length p.structures → (HasDataSets p → HasDataSets (acts m t y ss ds rs fillings p)) → MovesBy BlocksChange p (acts m t y ss ds rs fillings p)
     → is_hardening (task_at m t p.managers).stage ≡ false → is_hardening y.stage ≡ false
     → AreHeld (tasks_of (tasked t y (manager_in m p.managers))) (with_kept m rs fillings p)
     → ((first : PageNo) → needed_by y.stage ≡ Some first → first.number ≤ (log_in m p.logs).writer.next)
@@ -120,21 +134,22 @@ pub acted : (a b c d : ℕ) (p : Owned) (m : Member) (t : TaskNo) (y : Task) (ss
     → a ≤ c → a + b ≤ c + d → ((x : StructNo) → (structure_in x ss).last ≤ c)
     → ((l : IsLawful p) → IsTied (l.rest.logs m).keep (log_in m p.logs).writer (log_in m p.logs).bytes → IsTied (l.rest.logs m).keep (with_kept m rs fillings p).writer (log_in m p.logs).bytes)
     → ((l : IsLawful p) → Change (group_of l.rest p.structures p.managers) (group_of l.rest ss (with_task m t y p.managers)))
-    → IsSteady c d (acts m t y ss rs fillings p)
-acted a b c d p m t y ss rs fillings s has same before after held needs kept_task answers more ids tied change =
+    → IsSteady c d (acts m t y ss ds rs fillings p)
+acted a b c d p m t y ss ds rs fillings s has same sets moves before after held needs kept_task answers more ids tied change =
     let old = manager_in m p.managers in
     let x = tasked t y old in
     let five = member_five a b p m s has in
     let kept = with_kept m rs fillings p in
-    let q = acts m t y ss rs fillings p in
+    let q = acts m t y ss ds rs fillings p in
     let latch = written_same old x (latch_same old.tasks x.tasks (hardening_same t y old five (before ∙ sym after))) in
-    steady_moved a b c d p q m t x kept s has answers (beside_at p m x kept ss same) refl (manager_same m x p.managers has.manager) (log_same m kept p.logs has.log) refl
+    steady_moved a b c d p q m t x kept s has answers (beside_sets p m x kept ss ds same sets) moves refl (manager_same m x p.managers has.manager) (log_same m kept p.logs has.log) refl
     (one_tasked m t c (length ss) y old five kept_task) held
     (behind_sets m t y old x p.repo (log_in m p.logs) kept (task_sets t y old five) (omega arith) needs (s.behind m has.manager))
     (omega (arith, writing_with m x p.managers has.manager, latch, s.room))
-    (counted_at a b c d p m x q.logs ss has.manager (omega (arith, s.counted.names m, more)) more ids s.counted)
+    (record { names = (counted_at a b c d p m x q.logs ss has.manager (omega (arith, s.counted.names m, more)) more ids s.counted).names; ids = ids })
     (λ tells l. record {
       rest = l.rest;
+      outside = λ s. refl;
       others = λ k differ. refl;
       mirrored = record { history = l.mirrored.history; failed = l.mirrored.failed; tops = l.mirrored.tops };
       laws = laws_stay _ _ (change l) l.laws;

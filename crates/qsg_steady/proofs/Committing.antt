@@ -38,6 +38,9 @@ use Rattle.qsg_steady.specs.Actions.{IsLogKept, begun, IsRun, with_room, IsWritt
 use Rattle.qsg_steady.proofs.Places.{log_same, task_sets, latch_none, latch_some, written_one, written_none, writing_with, writing_few}
 use Rattle.qsg_steady.proofs.Moving.{by_task, behind_later, behind_sets, steady_moved}
 use Rattle.qsg_steady.proofs.Acting.{tasked, member_five, held_of, seen_of, beside_at, counted_at, one_tasked, none_tasked, named_by}
+use Rattle.qsg_steady.proofs.Sets.{sets_stay}
+use Rattle.qsg_steady.proofs.Grounding.{by_task_change}
+use Rattle.qsg_steady.proofs.Doing.{begun_moves, paged_moves, hardened_moves}
 use Rattle.qsg_steady.proofs.Reserving.{beside_log}
 use Rattle.qsg_steady.proofs.Writing.{last_next, next_later, held_same, seen_begun, seen_stepped, seen_hardened, seen_failed}
 
@@ -64,7 +67,7 @@ begun_steady a b p t u ops claims pages s has opened latch run room =
     let sets = task_sets t y old five in
     let now : Sets t (hardening_task u ops claims log.writer.next) (tasks_of old) (tasks_of x) = record { here = sets.here ∙ made; others = sets.others } in
     let held : AreHeld (tasks_of x) kept = begun_held (tasks_of old) (tasks_of x) log t u ops claims log.writer.next pages before opened quiet now in
-    steady_moved a b a b p q m t x kept s has (omega arith) (beside_at p m x kept p.structures refl) refl (manager_same m x p.managers has.manager) (log_same m kept p.logs has.log) refl
+    steady_moved a b a b p q m t x kept s has (omega arith) (beside_at p m x kept p.structures refl) (by_task_change m t p q (begun_moves p t u pages has)) refl (manager_same m x p.managers has.manager) (log_same m kept p.logs has.log) refl
     (one_tasked m t a (length p.structures) y old five (record {
       named = named_by y u holds;
       own = s.own m t;
@@ -81,6 +84,7 @@ begun_steady a b p t u ops claims pages s has opened latch run room =
     let hand = l.laws.in_hand u t holds in
     record {
       rest = l.rest;
+      outside = λ j. refl;
       others = λ k differ. refl;
       mirrored = record { history = l.mirrored.history; failed = l.mirrored.failed; tops = l.mirrored.tops };
       laws = laws_stay _ _ (begin_is_begin l.rest p.structures p.managers u t ops claims (record { number = log.writer.next }) (record { member = record { within = has.manager; five = five }; has = opened; latch = latch; begins = sym (seen.next idle) })) l.laws;
@@ -93,10 +97,11 @@ relogged_by : (a b : ℕ) (p : Owned) (m : Member) (log : KeptLog) → IsSteady 
     → ((log_in m p.logs).tells ≡ true → (l : IsLawful p) → IsSeen m (l.rest.logs m) (manager_in m p.managers) p.repo log) → IsSteady a b (paged m log p)
 relogged_by a b p m log s has same held later seen =
     let x = manager_in m p.managers in
-    steady_moved a b a b p (paged m log p) m System x log s has (omega arith) (beside_log p m log) refl refl (log_same m log p.logs has.log) same (none_tasked a b p m s has) held
+    steady_moved a b a b p (paged m log p) m System x log s has (omega arith) (beside_log p m log) (by_task_change m System p (paged m log p) (paged_moves p m System log)) refl refl (log_same m log p.logs has.log) same (none_tasked a b p m s has) held
     (behind_later m x p.repo (log_in m p.logs) log later (s.behind m has.manager)) s.room (record { names = s.counted.names; ids = s.counted.ids })
     (λ tells l. record {
       rest = l.rest;
+      outside = λ j. refl;
       others = λ k differ. refl;
       mirrored = record { history = l.mirrored.history; failed = l.mirrored.failed; tops = l.mirrored.tops };
       laws = l.laws;
@@ -167,8 +172,8 @@ hardened_steady a b room p t u ops claims first log s has holds ends written mor
     (λ w differ. by w differ (is_hardening (tasks_of x w).stage) refl (sets.others w differ) only) in
     let beside = beside_at p m x log p.structures refl in
     steady_moved a b a b p q m t x log s has (omega arith)
-    (record { managers = beside.managers; logs = beside.logs; structures = refl; datasets = refl; objects = refl; manager = beside.manager; log = beside.log })
-    refl (manager_same m x p.managers has.manager) (log_same m log p.logs has.log) written.tells
+    (record { managers = beside.managers; logs = beside.logs; structures = refl; datasets = sets_stay p q refl beside.managers refl; objects = refl; manager = beside.manager; log = beside.log })
+    (by_task_change m t p q (hardened_moves room p t u ops log has)) refl (manager_same m x p.managers has.manager) (log_same m log p.logs has.log) written.tells
     (one_tasked m t a (length p.structures) y old five (record {
       named = named_by y u (ap (λ (z : Task). z.unit) holds);
       own = s.own m t;
@@ -192,6 +197,7 @@ hardened_steady a b room p t u ops claims first log s has holds ends written mor
     let change = harden_is_harden l.rest p.structures p.managers u t ops claims first next (record { member = record { within = has.manager; five = five }; has = holds; begins = begins; pages = omega (arith, after, begins, seen.behind) }) in
     record {
       rest = rest;
+      outside = λ j. refl;
       others = λ k differ. change-other member_number m (with_run run next) l.rest.logs k differ;
       mirrored = record { history = ap (λ h. h ++ UnitOf u ops ∷ []) l.mirrored.history; failed = l.mirrored.failed; tops = l.mirrored.tops };
       laws = laws_stay _ _ change l.laws;
@@ -223,10 +229,13 @@ roomy_steady a b room p more s = record {
   over = s.over;
   room = omega (arith, s.room, more);
   counted = record { names = s.counted.names; ids = s.counted.ids };
-  lawful = λ tells. let l = s.lawful tells in record {
+  fitting = s.fitting;
+  lawful = λ tells. let l = s.lawful (record { logs = tells.logs; sets = tells.sets }) in record {
     rest = l.rest;
+    outside = l.outside;
     mirrored = record { history = l.mirrored.history; failed = l.mirrored.failed; tops = l.mirrored.tops };
     laws = l.laws;
+    blocks = l.blocks;
     logs = l.logs;
   };
 }
@@ -246,5 +255,6 @@ counts_steady a b c d p answers both s = record {
   over = s.over;
   room = s.room;
   counted = record { names = λ m. omega (arith, s.counted.names m, both); ids = λ x. omega (arith, s.counted.ids x, answers) };
+  fitting = s.fitting;
   lawful = s.lawful;
 }

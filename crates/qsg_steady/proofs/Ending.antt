@@ -52,7 +52,10 @@ use Rattle.qsg_parts.specs.Owned.{Owned, HasMember}
 use Rattle.qsg_steady.specs.Steady.{tasks_of, IsWithin, IsLawful, IsSteady}
 use Rattle.qsg_steady.specs.Actions.{IsLogKept, given_up, settled, ended}
 use Rattle.qsg_steady.proofs.Places.{task_sets}
-use Rattle.qsg_steady.proofs.Acting.{tasked, member_five, held_of, named_by, acted}
+use Rattle.qsg_blocks.specs.Changes.{Change as BlocksChange}
+use Rattle.qsg_steady.proofs.Grounding.{by_task_change, alike}
+use Rattle.qsg_steady.proofs.Doing.{given_up_moves, settled_moves, ended_moves}
+use Rattle.qsg_steady.proofs.Acting.{tasked, member_five, held_of, named_by, kept_sets, acted}
 use Rattle.qsg_steady.proofs.Operating.{same_ids}
 
 -- the log of the member isn't changed
@@ -73,7 +76,7 @@ given_up_steady a b p t u ops claims s has opened =
     let before : is_hardening (task_at m t p.managers).stage ≡ false = ap (λ (z : Task). is_hardening z.stage) opened in
     let held : AreHeld (tasks_of x) log = settling_held (tasks_of old) (tasks_of x) log t y (held_of a b p m s has) before (task_sets t y old five) (record { same_unit = refl; closed = refl; settling = refl }) in
     subst (λ l. IsSteady a b (record p { managers = with_task m t y p.managers; logs = l })) (log_kept m p.logs)
-    (acted a b a b p m t y p.structures log.writer.reserved log.fillings s has refl before refl held
+    (acted a b a b p m t y p.structures p.datasets log.writer.reserved log.fillings s has refl (kept_sets p m t y p.structures log.writer.reserved log.fillings refl) (alike BlocksChange p (given_up u t p) _ refl refl refl (by_task_change m t p (given_up u t p) (given_up_moves p t u has))) before refl held
     (λ page is. absurd (none-some page is))
     (record { named = named_by y u (ap (λ (z : Task). z.unit) opened); own = s.own m t; live = s.live m t; within = s.within m t; short = omega arith; paired = λ open_yet. absurd (true≢false (sym open_yet)) })
     (omega arith) (omega arith) s.counted.ids (λ l tied. tied)
@@ -136,13 +139,13 @@ unserved structure c lost is same = by (is_active structure.state) refl
 structure_kept : (s : StructNo) (structures : List ListStructure) → with_structure s (structure_in s structures) structures ≡ structures
 structure_kept s structures = set-get_or structures (structure_number s - 1) no_structure
 
-lost_kept : (s : StructNo) (c : Connection) (id : EntryId) (u : UnitName) (f : Entry → Option Entry) (lost : Lost) (structures : List ListStructure) → lost_of (structure_in s structures) c ≡ Some lost
+pub lost_kept : (s : StructNo) (c : Connection) (id : EntryId) (u : UnitName) (f : Entry → Option Entry) (lost : Lost) (structures : List ListStructure) → lost_of (structure_in s structures) c ≡ Some lost
     → with_structure s (revised_if_done (settle_answer (structure_in s structures) c id u) id f (structure_in s structures)) structures ≡ structures
 lost_kept s c id u f lost structures is =
     ap (λ (o : Option Lost). with_structure s (revised_if_done (unless o (told_by (names_unit u) (entry_at id (structure_in s structures).entries))) id f (structure_in s structures)) structures) is
     ∙ structure_kept s structures
 
-revised_last : (r : Result Settled Lost) (id : EntryId) (f : Entry → Option Entry) (structure : ListStructure) → (revised_if_done r id f structure).last ≡ structure.last
+pub revised_last : (r : Result Settled Lost) (id : EntryId) (f : Entry → Option Entry) (structure : ListStructure) → (revised_if_done r id f structure).last ≡ structure.last
 revised_last (Ok answer) id f structure = refl
 revised_last (Err lost) id f structure = refl
 
@@ -211,7 +214,7 @@ settled_steady a b p t u claims first n c s has holds is =
     let same : length ss ≡ length p.structures = length-set p.structures (structure_number c.connection.structure - 1) _ in
     let held : AreHeld (tasks_of x) log = settling_held (tasks_of old) (tasks_of x) log t y (held_of a b p m s has) before (task_sets t y old five) (record { same_unit = refl; closed = shut; settling = after }) in
     subst (λ l. IsSteady a b (record p { structures = ss; managers = with_task m t y p.managers; logs = l })) (log_kept m p.logs)
-    (acted a b a b p m t y ss log.writer.reserved log.fillings s has same before after held
+    (acted a b a b p m t y ss p.datasets log.writer.reserved log.fillings s has same (kept_sets p m t y ss log.writer.reserved log.fillings same) (alike BlocksChange p (settled u t c p) _ refl refl refl (by_task_change m t p (settled u t c p) (settled_moves p t u c has within))) before after held
     (λ page needs. (s.behind m has.manager).runs t page (sym (further_needs task.stage) ∙ needs))
     (record {
       named = named_by y u (ap (λ (z : Task). z.unit) holds);
@@ -238,7 +241,7 @@ ended_steady a b p t u claims first n s has kept holds through =
     let five = member_five a b p m s has in
     let before : is_hardening (task_at m t p.managers).stage ≡ false = ap (λ (z : Task). is_hardening z.stage) holds ∙ settling_closed first n in
     let held : AreHeld (tasks_of x) (with_ended t u log) = ended_held (tasks_of old) (tasks_of x) log t u (held_of a b p m s has) kept.five (ap (λ (z : Task). z.unit) holds) before (task_sets t idle old five) in
-    acted a b a b p m t idle p.structures (besides u log.writer.reserved) (with_ended t u log).fillings s has refl before refl held
+    acted a b a b p m t idle p.structures p.datasets (besides u log.writer.reserved) (with_ended t u log).fillings s has refl (kept_sets p m t idle p.structures (besides u log.writer.reserved) (with_ended t u log).fillings refl) (by_task_change m t p (ended u t p) (ended_moves p t u has)) before refl held
     (λ page is. absurd (none-some page is))
     (record { named = λ none. refl; own = λ v is. absurd (none-some v is); live = λ v is. absurd (none-some v is); within = tt; short = omega arith; paired = λ open_yet. refl })
     (omega arith) (omega arith) s.counted.ids

@@ -1,6 +1,8 @@
 -- a group in which nothing has happened is steady
-use Rattle.std.proofs.Common.{◌≡◌, ℕ, zero, suc, ◌-◌, ◌<◌, ◌≤◌, List, [], ◌∷◌, length, map, get_or, true, false, Option, None, refl, sym, ap, subst, ◌∙◌, arith, true≢false}
-use Rattle.std.specs.Prelude.{replicate, filter, slice_index_or}
+use Rattle.std.proofs.Common.{◌≡◌, ℕ, zero, suc, ◌-◌, ◌<◌, ◌≤◌, List, [], ◌∷◌, length, map, get_or, Bool, true, false, Option, None, refl, sym, ap, subst, ◌∙◌, arith, true≢false}
+use Rattle.std.specs.Prelude.{IfSome, nat_le, replicate, filter, slice_index_or}
+use Rattle.std.proofs.lemmas.Bool.Decides.{nat_tests}
+use Rattle.std.proofs.lemmas.List.{get_or_past}
 use Rattle.std.specs.List.{AllByRecursion, flat_map}
 use Rattle.std.proofs.lemmas.List.Sums.{sum_by-cons}
 use Rattle.std.proofs.lemmas.Option.{none-some}
@@ -12,6 +14,17 @@ use Rattle.qsg_num.specs.declared.seats.StructNo.TheVariants as structures
 use Rattle.qsg_num.specs.declared.seats.TaskNo.{TaskNo}
 use Rattle.qsg_num.specs.declared.seats.TaskNo.TheVariants as number
 use Rattle.qsg_num.specs.Seats.{member_number, structure_number}
+use Rattle.qsg_num.proofs.Ranges.{structure-bounds}
+use Rattle.qsg_disk.specs.Byte.{zero_byte}
+use Rattle.qsg_lists.specs.declared.parts.Entry.{Entry}
+use Rattle.qsg_dataset.specs.Contents.{IsShut, extent_of}
+use Rattle.qsg_datasets.specs.declared.member_data_set.Hand.{Hand}
+use Rattle.qsg_datasets.specs.declared.member_data_set.KeptMap.{KeptMap}
+use Rattle.qsg_datasets.specs.Kept.{KeptSet, IsKept, no_set, set_for, sets_of, set_in}
+use Rattle.qsg_blocks.specs.State.{IsThere, AreTold}
+use Rattle.qsg_blocks.specs.Laws.{AreBlank, AreWithin, FitsPlace, IsFitting, Laws as BlockLaws}
+use Rattle.qsg_blocks.proofs.Whole.{laws_begin}
+use Rattle.qsg_bodies.specs.Grounds.{ground_of}
 use Rattle.qsg_group.specs.declared.tasks.Task.{Task}
 use Rattle.qsg_group.specs.Group.{Seat, Group, empty_group, idle}
 use Rattle.qsg_group.specs.Observers.{is_hardening}
@@ -22,7 +35,7 @@ use Rattle.qsg_manager.specs.Facilities.{no_structure, structure_in}
 use Rattle.qsg_manager.specs.Groups.{seat_of, Rest, group_of}
 use Rattle.qsg_manager.specs.Latches.{needed_by}
 use Rattle.qsg_manager.specs.Storage.{task_in, no_manager, manager_in}
-use Rattle.qsg_manager.specs.Views.{held_of}
+use Rattle.qsg_manager.specs.Views.{Outside, held_of}
 use Rattle.qsg_repo.specs.declared.notes.Note.{Note}
 use Rattle.qsg_repo.specs.Calls.{noted_epoch}
 use Rattle.qsg_repo.specs.Tables.{Repository, page_at, low_in, low_of, note_at, recovers}
@@ -36,8 +49,8 @@ use Rattle.qsg_logs.specs.Writers.{new_writer}
 use Rattle.qsg_logs.proofs.Owners.{all_weaker}
 use Rattle.qsg_logs.proofs.Holding.{at_first}
 use Rattle.qsg_parts.specs.Owned.{Owned}
-use Rattle.qsg_steady.specs.Founding.{new_manager, IsNewLog, IsNewStructure, IsNew}
-use Rattle.qsg_steady.specs.Steady.{TellsFrom, tasks_of, IsSeen, IsBehind, IsListed, IsWithin, written_by, writing, IsSteady}
+use Rattle.qsg_steady.specs.Founding.{new_manager, IsNewLog, IsNewSet, IsNewStructure, IsNew}
+use Rattle.qsg_steady.specs.Steady.{TellsFrom, tasks_of, IsSeen, IsBehind, IsListed, IsWithin, written_by, writing, outside_in, IsSteady}
 use Rattle.qsg_steady.proofs.Places.{member_some, latch_none, written_none}
 use Rattle.qsg_steady.proofs.Starts.{least_first, all_joint}
 
@@ -117,8 +130,8 @@ seated_laws seats = let e = nothing_happened in record {
   latched = e.latched;
 }
 
-abbrev first_rest : Rest
-first_rest = record { outside = λ s m blocks n. []; logs = λ m. record { runs = []; next = 0; low = 0; keep = 0 }; failed = λ m i. false; tops = λ s. 0; history = [] }
+abbrev first_rest : Outside → Rest
+first_rest outside = record { outside = outside; logs = λ m. record { runs = []; next = 0; low = 0; keep = 0 }; failed = λ m i. false; tops = λ s. 0; history = [] }
 
 no_structure_new : IsNewStructure no_structure
 no_structure_new = record { state = refl; epoch = refl; last = refl; entries = refl }
@@ -126,19 +139,19 @@ no_structure_new = record { state = refl; epoch = refl; last = refl; entries = r
 structure_new : (s : StructNo) (p : Owned) → IsNew p → IsNewStructure (structure_in s p.structures)
 structure_new s p new = all_or IsNewStructure p.structures (structure_number s - 1) no_structure new.structures no_structure_new
 
-first_group : (p : Owned) → IsNew p → group_of first_rest p.structures p.managers ≡ seated (λ m. seat_of (manager_in m p.managers))
-first_group p new = λ i. record {
+first_group : (outside : Outside) (p : Owned) → IsNew p → group_of (first_rest outside) p.structures p.managers ≡ seated (λ m. seat_of (manager_in m p.managers))
+first_group outside p new = λ i. record {
   shelves = λ s. record {
     state = (structure_new s p new).state i;
     epoch = (structure_new s p new).epoch i;
     last = (structure_new s p new).last i;
-    entries = map (held_of first_rest.outside s) ((structure_new s p new).entries i);
+    entries = map (held_of outside s) ((structure_new s p new).entries i);
   };
-  logs = first_rest.logs;
+  logs = (first_rest outside).logs;
   seats = λ m. seat_of (manager_in m p.managers);
-  failed = first_rest.failed;
+  failed = (first_rest outside).failed;
   tasks = λ m t. (member_idle m p.managers new.managers).tasks t i;
-  tops = first_rest.tops;
+  tops = (first_rest outside).tops;
   history = [];
 }
 
@@ -191,13 +204,13 @@ first_behind m p new = record {
   runs = λ t first is. absurd (none-some first (ap (λ (x : Task). needed_by x.stage) (sym ((member_idle m p.managers new.managers).tasks t)) ∙ is));
 }
 
-first_seen : (m : Member) (p : Owned) → IsNew p → (log_in m p.logs).tells ≡ true → member_number m ≤ length p.managers → IsSeen m (first_rest.logs m) (manager_in m p.managers) p.repo (log_in m p.logs)
+first_seen : (m : Member) (p : Owned) → IsNew p → (log_in m p.logs).tells ≡ true → member_number m ≤ length p.managers → IsSeen m ((first_rest (outside_in p)).logs m) (manager_in m p.managers) p.repo (log_in m p.logs)
 first_seen m p new tells there =
     let repo = p.repo in
     let log = log_in m p.logs in
     let fresh = log_new m p new there in
     let low : (low_of m repo).number ≡ 0 = ap (λ (x : PageNo). x.number) (low_zero m repo new.lows) in
-    let first = first_rest.logs m in
+    let first = (first_rest (outside_in p)).logs m in
     let held : flat_map (pages_held m) repo.holds ≡ [] = ap (flat_map (pages_held m)) new.holds in
     let last = least (low_of m repo).number (noted_pages m repo) in
     let next : log.writer.next ≡ 0 = ap (λ (w : LogState). w.next) fresh.writer in
@@ -222,6 +235,73 @@ first_seen m p new tells there =
         run = tt;
       };
     }
+
+-- ---- blocks
+
+zeros_shut : (n : ℕ) → 1 ≤ n → IsShut (replicate n zero_byte)
+zeros_shut zero some = absurd (omega (arith, some))
+zeros_shut (suc n) some = refl
+
+-- a data set of a member that is new, or that stands for none
+pub record IsBlankSet (set : KeptSet) : Type 0 where
+  pub map : set.map ≡ None
+  pub hands : AreBlank set.hands
+  pub within : AllByRecursion (λ (h : Hand). AreWithin set.contents.blocks h.blocks) set.hands
+  pub kept : IsThere set → IsKept set
+  pub shut : IsThere set → set.contents.tells ≡ true → IsShut set.contents.bytes
+
+new_set_blank : (set : KeptSet) → IsNewSet set → IsBlankSet set
+new_set_blank set new = record {
+  map = new.map;
+  hands = subst AreBlank (sym new.hands) (refl, (refl, (refl, (refl, (refl, tt)))));
+  within = subst (AllByRecursion (λ (h : Hand). AreWithin set.contents.blocks h.blocks)) (sym new.hands) (tt, (tt, (tt, (tt, (tt, tt)))));
+  kept = λ there. record { sized = new.sized; five = ap length new.hands; map = subst (λ (m : Option KeptMap). IfSome m (λ x. length x.used ≡ set.contents.blocks)) (sym new.map) tt };
+  shut = λ there tells. subst IsShut (sym (new.zeros tells)) (zeros_shut (extent_of set.contents) (omega (arith)));
+}
+
+no_set_blank : IsBlankSet no_set
+no_set_blank = record { map = refl; hands = tt; within = tt; kept = λ there. absurd (omega (arith, there)); shut = λ there. absurd (omega (arith, there)) }
+
+row_blank : (row : List KeptSet) (s : StructNo) → AllByRecursion IsNewSet row → IsBlankSet (set_for s row)
+row_blank row s all = all_or IsBlankSet row (structure_number s - 1) no_set (all_weaker IsNewSet IsBlankSet row new_set_blank all) no_set_blank
+
+set_blank : (p : Owned) (m : Member) (s : StructNo) → IsNew p → IsBlankSet (set_in m s p.datasets)
+set_blank p m s new = row_blank (sets_of m p.datasets) s (all_or (AllByRecursion IsNewSet) p.datasets (member_number m - 1) [] new.sets tt)
+
+-- a member that is up has its data set
+set_there : (p : Owned) (m : Member) (s : StructNo) → IsNew p → structure_number s ≤ length p.structures → (manager_in m p.managers).up ≡ true → IsThere (set_in m s p.datasets)
+set_there p m s new within up =
+    let few = few_members m p.managers up in
+    let some = member_some m in
+    let row : AllByRecursion IsNewSet (sets_of m p.datasets) = all_within (AllByRecursion IsNewSet) p.datasets (member_number m - 1) [] new.sets (omega (arith, few, some, new.datasets.members)) in
+    let one = structure-bounds s in
+    let set : IsNewSet (set_in m s p.datasets) = all_within IsNewSet (sets_of m p.datasets) (structure_number s - 1) no_set row (omega (arith, one.0, within, new.datasets.structures m few)) in
+    set.sized.some_blocks
+  where
+    few_members : (k : Member) (ms : List Manager) → (manager_in k ms).up ≡ true → member_number k ≤ length ms
+    few_members k ms is = by (nat_le (member_number k) (length ms)) refl
+      where
+        below : nat_le (member_number k) (length ms) ≡ true → member_number k ≤ length ms
+        below h = grind (arith, nat_tests)
+
+        above : nat_le (member_number k) (length ms) ≡ false → length ms < member_number k
+        above h = grind (arith, nat_tests)
+
+        by : (b : Bool) → nat_le (member_number k) (length ms) ≡ b → member_number k ≤ length ms
+        by true h = below h
+        by false h = let some = member_some k in let past = above h in absurd (true≢false (sym is ∙ ap (λ (x : Manager). x.up) (get_or_past ms (member_number k - 1) no_manager (omega (arith, past, some)))))
+
+first_fitting : (p : Owned) (s : StructNo) → IsNew p → structure_number s ≤ length p.structures → IsFitting (ground_of s p)
+first_fitting p s new within = record {
+  there = λ m up. set_there p m s new within up;
+  kept = λ m. (set_blank p m s new).kept;
+  alike = new.alike s;
+  hands = λ m. (set_blank p m s new).within;
+  places = subst (AllByRecursion (λ (e : Entry). FitsPlace (ground_of s p).sets e.place)) (sym (structure_new s p new).entries) tt;
+}
+
+first_blocks : (p : Owned) (s : StructNo) → IsNew p → AreTold (ground_of s p).sets → BlockLaws (ground_of s p)
+first_blocks p s new told = laws_begin (ground_of s p) (structure_new s p new).state (structure_new s p new).entries (λ m. (set_blank p m s new).map) (λ m. (set_blank p m s new).hands) (λ m there. (set_blank p m s new).shut there (told m there))
 
 pub founded : (p : Owned) → IsNew p → IsSteady 0 0 p
 founded p new = record {
@@ -248,14 +328,17 @@ founded p new = record {
     names = λ m. omega (arith, (member_idle m p.managers new.managers).next);
     ids = λ s. omega (arith, (structure_new s p new).last);
   };
+  fitting = λ s within. first_fitting p s new within;
   lawful = λ tells. record {
-    rest = first_rest;
+    rest = first_rest (outside_in p);
+    outside = λ s. refl;
     mirrored = record {
       history = sym new.history;
       failed = λ m i. sym (new.unfailed m i);
       tops = λ s. sym (ap noted_epoch (note_none s p.repo new.notes));
     };
-    laws = subst Laws (sym (first_group p new)) (seated_laws (λ m. seat_of (manager_in m p.managers)));
-    logs = λ m there. first_seen m p new (tells m (omega (arith, new.members, there))) there;
+    laws = subst Laws (sym (first_group (outside_in p) p new)) (seated_laws (λ m. seat_of (manager_in m p.managers)));
+    blocks = λ s within. first_blocks p s new (tells.sets s);
+    logs = λ m there. first_seen m p new (tells.logs m (omega (arith, new.members, there))) there;
   };
 }

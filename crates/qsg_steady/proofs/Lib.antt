@@ -1,6 +1,8 @@
 pub mod Seen
 pub mod Places
 pub mod Sets
+pub mod Grounding
+pub mod Doing
 pub mod Moving
 pub mod Sparing
 pub mod Acting
@@ -14,3 +16,11 @@ pub mod Publishing
 pub mod Spares
 pub mod Gives
 pub mod Founded
+pub mod Sharing
+pub mod Using
+pub mod Outside
+pub mod Members
+pub mod Undoing
+pub mod Stopping
+pub mod Working
+pub mod Fetching

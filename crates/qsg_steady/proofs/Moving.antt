@@ -2,6 +2,7 @@
 use Rattle.std.proofs.Common.{◌≡◌, ℕ, ◌≤◌, length, true, Some, None, refl, sym, ap, subst, ◌∙◌, inl, inr, arith}
 use Rattle.std.specs.List.{AllByRecursion, list_any}
 use Rattle.qsg_num.specs.declared.seats.Member.{Member}
+use Rattle.qsg_num.specs.declared.seats.StructNo.{StructNo}
 use Rattle.qsg_num.specs.declared.seats.TaskNo.{TaskNo}
 use Rattle.qsg_num.specs.declared.ids.Incarnation.{Incarnation}
 use Rattle.qsg_num.specs.declared.ids.PageNo.{PageNo}
@@ -20,17 +21,21 @@ use Rattle.qsg_manager.specs.Latches.{needed_by}
 use Rattle.qsg_manager.specs.Storage.{manager_in, task_at}
 use Rattle.qsg_logs.specs.Held.{AreHeld, Sets}
 use Rattle.qsg_logs.specs.Kept.{KeptLog, log_in}
-use Rattle.qsg_parts.specs.Owned.{Owned, HasMember}
-use Rattle.qsg_steady.specs.Steady.{tasks_of, IsSeen, IsBehind, IsLive, is_up_life, IsListed, IsOver, IsMirrored, IsWithin, IsCounted, writing, AreTelling, IsLawful, IsSteady}
+use Rattle.qsg_parts.specs.Owned.{Owned, HasMember, HasDataSets}
+use Rattle.qsg_blocks.specs.State.{AreTold}
+use Rattle.qsg_blocks.specs.Changes.{Change as BlocksChange}
+use Rattle.qsg_bodies.specs.Grounds.{ground_of}
+use Rattle.qsg_steady.specs.Steady.{tasks_of, IsSeen, IsBehind, IsLive, is_up_life, IsListed, IsOver, IsMirrored, IsWithin, IsCounted, writing, AreTelling, outside_in, AreFitting, IsLawful, IsSteady}
 use Rattle.qsg_steady.proofs.Seen.{has_ended}
-use Rattle.qsg_steady.proofs.Sets.{sets_stay}
+use Rattle.qsg_steady.specs.Standing.{MovesBy}
+use Rattle.qsg_steady.proofs.Grounding.{fitting_moved, block_laws_moved, bodies_moved, sets_told}
 
 -- the other members and their logs are as they were
 pub record AreBeside (m : Member) (p q : Owned) : Type 0 where
   pub managers : length q.managers ≡ length p.managers
   pub logs : length q.logs ≡ length p.logs
   pub structures : length q.structures ≡ length p.structures
-  pub datasets : q.datasets ≡ p.datasets
+  pub datasets : HasDataSets p → HasDataSets q
   pub objects : q.objects ≡ p.objects
   pub manager : (k : Member) → (member_number k ≡ member_number m → ⊥) → manager_in k q.managers ≡ manager_in k p.managers
   pub log : (k : Member) → (member_number k ≡ member_number m → ⊥) → log_in k q.logs ≡ log_in k p.logs
@@ -53,9 +58,10 @@ pub record IsTasked (m : Member) (t : TaskNo) (answered structures : ℕ) (old n
   pub incarnation : new.incarnation ≡ old.incarnation
   pub next : old.next ≤ new.next
 
--- what the machine sees of a group in which one member has this storage and this log
+-- what the machine sees of a group in which one member has this storage and this log, with bodies as they were before
 pub record IsSeenMoved (m : Member) (x : Manager) (y : KeptLog) (old : Rest) (p q : Owned) : Type 0 where
   pub rest : Rest
+  pub outside : (s : StructNo) → rest.outside s ≡ old.outside s
   pub others : (k : Member) → (member_number k ≡ member_number m → ⊥) → rest.logs k ≡ old.logs k
   pub mirrored : IsMirrored rest q
   pub laws : Laws (group_of rest q.structures q.managers)
@@ -128,22 +134,27 @@ behind_sets m t y old new repo kept after sets later here behind = record {
 
 -- ---- the group
 
--- logs told their bytes before
-pub telling_before : (m : Member) (p q : Owned) → AreBeside m p q → (log_in m q.logs).tells ≡ (log_in m p.logs).tells → AreTelling q → AreTelling p
-telling_before m p q beside same tells = by_member (λ k. member_number k ≤ length p.logs → (log_in k p.logs).tells ≡ true) m
-    (λ there. sym same ∙ tells m (subst (λ (n : ℕ). member_number m ≤ n) (sym beside.logs) there))
-    (λ k differ there. ap (λ (l : KeptLog). l.tells) (sym (beside.log k differ)) ∙ tells k (subst (λ (n : ℕ). member_number k ≤ n) (sym beside.logs) there))
+-- logs and data sets told their bytes before
+pub telling_before : (m : Member) (p q : Owned) → AreBeside m p q → MovesBy BlocksChange p q → (log_in m q.logs).tells ≡ (log_in m p.logs).tells → AreTelling q → AreTelling p
+telling_before m p q beside moves same tells = record {
+  logs = by_member (λ k. member_number k ≤ length p.logs → (log_in k p.logs).tells ≡ true) m
+      (λ there. sym same ∙ tells.logs m (subst (λ (n : ℕ). member_number m ≤ n) (sym beside.logs) there))
+      (λ k differ there. ap (λ (l : KeptLog). l.tells) (sym (beside.log k differ)) ∙ tells.logs k (subst (λ (n : ℕ). member_number k ≤ n) (sym beside.logs) there));
+  sets = sets_told p q moves tells;
+}
 
 -- the same log seen over parts that are the same
 pub seen_same : (m : Member) (log new : Log) (old manager : Manager) (repo : Repository) (kept after : KeptLog) → new ≡ log → manager ≡ old → after ≡ kept → IsSeen m log old repo kept → IsSeen m new manager repo after
 seen_same m log new old manager repo kept after l x k seen =
     subst (λ y. IsSeen m y manager repo after) (sym l) (subst (λ y. IsSeen m log y repo after) (sym x) (subst (λ y. IsSeen m log old repo y) (sym k) seen))
 
-lawful_moved : (p q : Owned) (m : Member) (x : Manager) (y : KeptLog) (l : IsLawful p) → AreBeside m p q → q.repo ≡ p.repo → manager_in m q.managers ≡ x → log_in m q.logs ≡ y → IsSeenMoved m x y l.rest p q → IsLawful q
-lawful_moved p q m x y l beside repo here there moved = record {
-  rest = moved.rest;
-  mirrored = moved.mirrored;
-  laws = moved.laws;
+lawful_moved : (p q : Owned) (m : Member) (x : Manager) (y : KeptLog) (l : IsLawful p) → AreBeside m p q → MovesBy BlocksChange p q → ((s : StructNo) → AreTold (ground_of s p).sets) → AreFitting p → q.repo ≡ p.repo → manager_in m q.managers ≡ x → log_in m q.logs ≡ y → IsSeenMoved m x y l.rest p q → IsLawful q
+lawful_moved p q m x y l beside moves told fit repo here there moved = record {
+  rest = record moved.rest { outside = outside_in q };
+  outside = λ s. refl;
+  mirrored = record { history = moved.mirrored.history; failed = moved.mirrored.failed; tops = moved.mirrored.tops };
+  laws = bodies_moved p q moved.rest moves told fit l.blocks (λ s. moved.outside s ∙ l.outside s) moved.laws;
+  blocks = block_laws_moved p q moves told fit l.blocks;
   logs = by_member (λ k. member_number k ≤ length q.managers → IsSeen k (moved.rest.logs k) (manager_in k q.managers) q.repo (log_in k q.logs)) m
       (λ within. subst (λ r. IsSeen m (moved.rest.logs m) (manager_in m q.managers) r (log_in m q.logs)) (sym repo)
       (seen_same m (moved.rest.logs m) (moved.rest.logs m) x (manager_in m q.managers) p.repo y (log_in m q.logs) refl here there moved.seen))
@@ -158,10 +169,10 @@ members_moved : (p q : Owned) (m : Member) (P : Member → Manager → KeptLog �
 members_moved p q m P beside here all = by_member (λ k. member_number k ≤ length q.managers → P k (manager_in k q.managers) (log_in k q.logs)) m (λ within. here)
     (λ k differ within. subst (λ (x : Manager). P k x (log_in k q.logs)) (sym (beside.manager k differ)) (subst (P k (manager_in k p.managers)) (sym (beside.log k differ)) (all k (subst (λ (n : ℕ). member_number k ≤ n) beside.managers within))))
 
-pub steady_moved : (a b c d : ℕ) (p q : Owned) (m : Member) (t : TaskNo) (x : Manager) (y : KeptLog) → IsSteady a b p → HasMember m p → a ≤ c → AreBeside m p q → q.repo ≡ p.repo → manager_in m q.managers ≡ x → log_in m q.logs ≡ y → y.tells ≡ (log_in m p.logs).tells
+pub steady_moved : (a b c d : ℕ) (p q : Owned) (m : Member) (t : TaskNo) (x : Manager) (y : KeptLog) → IsSteady a b p → HasMember m p → a ≤ c → AreBeside m p q → MovesBy BlocksChange p q → q.repo ≡ p.repo → manager_in m q.managers ≡ x → log_in m q.logs ≡ y → y.tells ≡ (log_in m p.logs).tells
     → IsTasked m t c (length q.structures) (manager_in m p.managers) x → AreHeld (tasks_of x) y → IsBehind m x p.repo y → writing q.managers ≤ q.history.room → IsCounted c d q
     → ((log_in m p.logs).tells ≡ true → (l : IsLawful p) → IsSeenMoved m x y l.rest p q) → IsSteady c d q
-steady_moved a b c d p q m t x y s has more beside repo here there same tasked held behind room counted lawful =
+steady_moved a b c d p q m t x y s has more beside moves repo here there same tasked held behind room counted lawful =
     let tasks = tasks_moved a b c p q m t x s more beside here tasked in
     let up : (manager_in m q.managers).up ≡ (manager_in m p.managers).up = ap (λ (z : Manager). z.up) here ∙ tasked.up in
     let inc : (manager_in m q.managers).incarnation ≡ (manager_in m p.managers).incarnation = ap (λ (z : Manager). z.incarnation) here ∙ tasked.incarnation in
@@ -172,7 +183,7 @@ steady_moved a b c d p q m t x y s has more beside repo here there same tasked h
         five = members_moved p q m (λ k z l. length z.tasks ≡ 5) beside (ap (λ (z : Manager). length z.tasks) here ∙ tasked.five) s.shape.five;
         lows = ap (λ (r : Repository). length r.lows) repo ∙ s.shape.lows;
         structures = subst (λ (n : ℕ). length q.objects.structures ≤ n) (sym beside.structures) (subst (λ o. length o.structures ≤ length p.structures) (sym beside.objects) s.shape.structures);
-        datasets = sets_stay p q beside.datasets beside.managers beside.structures s.shape.datasets;
+        datasets = beside.datasets s.shape.datasets;
       };
       named = λ k w. (tasks k w).named;
       own = λ k w. (tasks k w).own;
@@ -188,8 +199,9 @@ steady_moved a b c d p q m t x y s has more beside repo here there same tasked h
       over = λ k i is. over_moved p q m k i beside up inc (s.over k i (ap (is_unresolved k i) (sym repo) ∙ is));
       room = room;
       counted = counted;
+      fitting = fitting_moved p q moves s.fitting;
       lawful = λ tells.
-          let before = telling_before m p q beside (ap (λ (l : KeptLog). l.tells) there ∙ same) tells in
+          let before = telling_before m p q beside moves (ap (λ (l : KeptLog). l.tells) there ∙ same) tells in
           let l = s.lawful before in
-          lawful_moved p q m x y l beside repo here there (lawful (before m has.log) l);
+          lawful_moved p q m x y l beside moves before.sets s.fitting repo here there (lawful (before.logs m has.log) l);
     }

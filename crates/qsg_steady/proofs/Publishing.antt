@@ -329,8 +329,10 @@ lowered_lawful a b page p m s has page_is none l =
     }) in
     record {
       rest = rest2;
+      outside = l.outside;
       mirrored = record { history = l.mirrored.history; failed = l.mirrored.failed; tops = l.mirrored.tops };
       laws = laws_stay _ _ gives laws1;
+      blocks = l.blocks;
       logs = by_member (λ k. member_number k ≤ length p.managers → IsSeen k (rest2.logs k) (manager_in k p.managers) after (log_in k p.logs)) m
           (λ there. subst (λ g. IsSeen m g manager after kept) (sym here) (seen_lower m page log manager p.repo kept seen lower))
           (λ k differ there. subst (λ g. IsSeen k g (manager_in k p.managers) after (log_in k p.logs)) (sym (other k differ))
@@ -360,7 +362,8 @@ lowered_steady a b page p m s has page_is none =
       over = s.over;
       room = s.room;
       counted = record { names = s.counted.names; ids = s.counted.ids };
-      lawful = λ tells. lowered_lawful a b page p m s has page_is none (s.lawful tells);
+      fitting = s.fitting;
+      lawful = λ tells. lowered_lawful a b page p m s has page_is none (s.lawful (record { logs = tells.logs; sets = tells.sets }));
     }
 
 pub published_steady : (a b page : ℕ) (p : Owned) (m : Member) → IsSteady a b p → HasMember m p → IsLowPage m page p → IsSteady a b (published m page p)

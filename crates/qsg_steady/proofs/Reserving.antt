@@ -39,6 +39,10 @@ use Rattle.qsg_parts.specs.Owned.{Owned, HasMember}
 use Rattle.qsg_steady.specs.Standing.{pages_of as pages_of_unit, SparesOthers}
 use Rattle.qsg_steady.specs.Steady.{tasks_of, IsLive, written_by, writing, IsLawful, IsSteady}
 use Rattle.qsg_steady.specs.Actions.{at_log, AreFree, reserved, drawn, fallen}
+use Rattle.qsg_steady.specs.Standing.{IsOfTask}
+use Rattle.qsg_steady.proofs.Sets.{sets_stay}
+use Rattle.qsg_steady.proofs.Grounding.{by_task_change, rests_task, rested}
+use Rattle.qsg_steady.proofs.Doing.{drawn_moves}
 use Rattle.qsg_steady.proofs.Places.{log_same, log_other, task_sets, latch_same, written_same, writing_with}
 use Rattle.qsg_steady.proofs.Seen.{is_free, tied_more, seen_beside}
 use Rattle.qsg_steady.proofs.Moving.{AreBeside, IsKeptTask, by_member, behind_later, behind_sets, steady_moved}
@@ -63,7 +67,7 @@ beside_log p m y = record {
   managers = refl;
   logs = length-set p.logs (member_number m - 1) y;
   structures = refl;
-  datasets = refl;
+  datasets = sets_stay p (record p { logs = with_log m y p.logs }) refl refl refl;
   objects = refl;
   manager = λ k differ. refl;
   log = λ k differ. log_other m k y p.logs differ;
@@ -77,10 +81,11 @@ relogged a b p m rs fillings s has held tied =
     let x = manager_in m p.managers in
     let kept = with_kept m rs fillings p in
     let q = record p { logs = with_log m kept p.logs } in
-    steady_moved a b a b p q m System x kept s has (omega arith) (beside_log p m kept) refl refl (log_same m kept p.logs has.log) refl (none_tasked a b p m s has) held
+    steady_moved a b a b p q m System x kept s has (omega arith) (beside_log p m kept) (by_task_change m System p q (rested (IsOfTask m System) p q (rests_task m System) refl (λ j. refl))) refl refl (log_same m kept p.logs has.log) refl (none_tasked a b p m s has) held
     (behind_later m x p.repo (log_in m p.logs) kept (omega arith) (s.behind m has.manager)) s.room (record { names = s.counted.names; ids = s.counted.ids })
     (λ tells l. record {
       rest = l.rest;
+      outside = λ j. refl;
       others = λ k differ. refl;
       mirrored = record { history = l.mirrored.history; failed = l.mirrored.failed; tops = l.mirrored.tops };
       laws = l.laws;
@@ -215,7 +220,7 @@ beside_drawn p m t log = record {
   managers = drawn_length m t p;
   logs = length-set p.logs (member_number m - 1) log;
   structures = refl;
-  datasets = refl;
+  datasets = sets_stay p (record p { managers = with_name m t p.managers; logs = with_log m log p.logs }) refl (drawn_length m t p) refl;
   objects = refl;
   manager = λ k differ. drawn_other m k t p differ;
   log = λ k differ. log_other m k log p.logs differ;
@@ -241,7 +246,7 @@ drawn_steady a b p m t logged s has up none free =
     let before : is_hardening (task_in t old.tasks).stage ≡ false = ap (λ (z : Task). is_hardening z.stage) idle_is in
     let here : manager_in m q.managers ≡ x = drawn_here m t p has.manager in
     let latch = written_same old x (latch_same old.tasks x.tasks (hardening_same t y old five before)) in
-    steady_moved a b a (b + 1) p q m t x kept s has (omega arith) (beside_drawn p m t kept) refl here (log_same m kept p.logs has.log) refl
+    steady_moved a b a (b + 1) p q m t x kept s has (omega arith) (beside_drawn p m t kept) (by_task_change m t p q (drawn_moves p m t logged has)) refl here (log_same m kept p.logs has.log) refl
     (record {
       five = length-set old.tasks (task_number t) y ∙ five;
       others = sets.others;
@@ -267,6 +272,7 @@ drawn_steady a b p m t logged s has up none free =
     })
     (λ tells l. record {
       rest = l.rest;
+      outside = λ j. refl;
       others = λ k differ. refl;
       mirrored = record { history = l.mirrored.history; failed = l.mirrored.failed; tops = l.mirrored.tops };
       laws = laws_stay _ _ (draw_is_draw l.rest p.structures p.managers m t (record { member = record { within = has.manager; five = five }; up = up; free = idle_is })) l.laws;

@@ -32,7 +32,7 @@ use Rattle.qsg_steady.proofs.Reserving.{beside_log}
 use Rattle.qsg_steady.proofs.Ending.{log_kept}
 
 -- one task and its member's log changed
-acted_spares : (p : Owned) (m : Member) (t : TaskNo) (y : Task) (ss : List ListStructure) (log : KeptLog) → HasMember m p → length ss ≡ length p.structures
+pub acted_spares : (p : Owned) (m : Member) (t : TaskNo) (y : Task) (ss : List ListStructure) (log : KeptLog) → HasMember m p → length ss ≡ length p.structures
     → ((w : TaskNo) → (task_number w ≡ task_number t → ⊥) → filling_of w log ≡ filling_of w (log_in m p.logs))
     → ((w : TaskNo) → (task_number w ≡ task_number t → ⊥) → pages_of (task_at m w p.managers).unit log.writer.reserved ≡ pages_of (task_at m w p.managers).unit (log_in m p.logs).writer.reserved)
     → SparesOthers m t p (record p { structures = ss; managers = with_task m t y p.managers; logs = with_log m log p.logs })

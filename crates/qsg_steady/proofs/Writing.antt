@@ -38,7 +38,7 @@ use Rattle.qsg_steady.proofs.Starts.{none_later, pushed_later}
 
 -- ---- the run in hand is that of the writer
 
-hand_none : (writer : LogState) (first : ℕ) (hand : Option Run) (safe : List (List ℕ)) → InHand writer first hand safe → writer.hand ≡ None → hand ≡ None
+pub hand_none : (writer : LogState) (first : ℕ) (hand : Option Run) (safe : List (List ℕ)) → InHand writer first hand safe → writer.hand ≡ None → hand ≡ None
 hand_none writer first None safe is none = refl
 hand_none writer first (Some run) safe is none = absurd (none-some is.hand (sym none ∙ is.hand_is))
 

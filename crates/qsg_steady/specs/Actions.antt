@@ -1,8 +1,9 @@
 -- What each action of a task makes of the parts of a group, and when it may come.
-use Rattle.std.specs.Prelude.{ℕ, ◌≡◌, ◌<◌, ◌≤◌, true, nat_lt, List, [], ◌∷◌, ◌++◌, length, Option, Some, None, Ok}
+use Rattle.std.specs.Prelude.{ℕ, ◌≡◌, ◌<◌, ◌≤◌, Bool, true, false, nat_lt, List, [], ◌∷◌, ◌++◌, length, Option, Some, None, Ok}
 use Rattle.qsg_num.specs.declared.seats.Member.{Member}
 use Rattle.qsg_num.specs.declared.seats.StructNo.{StructNo}
 use Rattle.qsg_num.specs.declared.seats.TaskNo.{TaskNo}
+use Rattle.qsg_num.specs.declared.ids.Block.{Block}
 use Rattle.qsg_num.specs.declared.ids.UnitName.{UnitName}
 use Rattle.qsg_msg.specs.declared.message.Message.{Message}
 use Rattle.qsg_model.specs.declared.history.Op.{Op}
@@ -12,13 +13,19 @@ use Rattle.qsg_lists.specs.declared.parts.Connection.{Connection}
 use Rattle.qsg_lists.specs.declared.parts.Entry.{Entry}
 use Rattle.qsg_lists.specs.declared.parts.Head.{Head}
 use Rattle.qsg_lists.specs.declared.parts.Place.{Place}
-use Rattle.qsg_lists.specs.Settling.{settle_answer, settled_entry, revised_if_done}
+use Rattle.qsg_lists.specs.declared.parts.Place.TheVariants.{Offloaded}
+use Rattle.qsg_lists.specs.Entries.{entry_at, revise}
+use Rattle.qsg_lists.specs.Marks.{is_cleanup}
+use Rattle.qsg_lists.specs.Structures.{lost_of}
+use Rattle.qsg_lists.specs.Settling.{settle_answer, settled_entry, deleted, revised_if_done}
 use Rattle.qsg_lists.specs.Writing.{next_id, written as with_written}
 use Rattle.qsg_logpage.specs.Page.{page_at}
 use Rattle.qsg_logpage.specs.Log.{IsTied, advanced, made_safe, pages_written}
 use Rattle.qsg_logread.specs.Records.{AreRecords}
 use Rattle.qsg_repo.specs.Keeping.{keep}
-use Rattle.qsg_repo.specs.Calls.{published as told_low}
+use Rattle.qsg_repo.specs.declared.statuses.Smds.{Smds}
+use Rattle.qsg_repo.specs.Calls.{published as told_low, stopped as stopped_in}
+use Rattle.qsg_repo.specs.Tables.{with_smds}
 use Rattle.qsg_group.specs.declared.tasks.Claim.{Claim}
 use Rattle.qsg_group.specs.declared.tasks.Stage.TheVariants.{Hardening}
 use Rattle.qsg_group.specs.Observers.{logged_ops}
@@ -29,10 +36,16 @@ use Rattle.qsg_manager.specs.Latches.{first_needed}
 use Rattle.qsg_manager.specs.Putting.{with_id, claim, with_put}
 use Rattle.qsg_manager.specs.Settles.{commits, further}
 use Rattle.qsg_manager.specs.Storage.{manager_in, task_at, with_task, next_name}
-use Rattle.qsg_manager.specs.Units.{with_name, with_stage, with_hardened, with_backed_out, with_idle}
-use Rattle.qsg_logs.specs.Kept.{KeptLog, log_in, with_log, need_of, with_reserved, with_record_of, fallen_back, with_begun, with_ended, IsKept}
+use Rattle.qsg_manager.specs.Units.{with_name, with_stage, with_hardened, with_backed_out, with_dropped, with_idle}
+use Rattle.qsg_logneed.specs.declared.counting.Filling.{Filling}
+use Rattle.qsg_datasets.specs.Kept.{set_in, with_set, freed, emptied_all}
+use Rattle.qsg_group.specs.Changes.{open_task}
+use Rattle.qsg_manager.specs.Seats.{with_down}
+use Rattle.qsg_logs.specs.Cuts.{restarted}
+use Rattle.qsg_logs.specs.Kept.{KeptLog, log_in, with_log, with_filling, need_of, with_reserved, with_record_of, fallen_back, with_begun, with_ended, IsKept}
 use Rattle.qsg_logs.specs.Writers.{reserve_answer}
 use Rattle.qsg_parts.specs.Owned.{Owned}
+use Rattle.qsg_bodies.specs.Using.{blocks_in, let_go}
 
 -- the log of a member becomes what f makes of it
 abbrev pub at_log : Member → (KeptLog → KeptLog) → Owned → Owned
@@ -76,6 +89,14 @@ put u t c head place message logged p = record p {
   logs = with_log u.member (with_record_of t logged (log_in u.member p.logs)) p.logs;
 }
 
+-- the same with a body of n bytes outside, in the blocks that the task had taken for it, which are the entry's now
+abbrev pub place_in : UnitName → TaskNo → Connection → ℕ → Owned → Place
+place_in u t c n p = Offloaded u.member (blocks_in u.member t c.structure p) n
+
+abbrev pub put_outside : UnitName → TaskNo → Connection → Head → ℕ → Message → Option ℕ → Owned → Owned
+put_outside u t c head n message logged p =
+    record (put u t c head (place_in u t c n p) message logged p) { datasets = (let_go u.member t c.structure p).datasets }
+
 -- the operation of a get
 abbrev pub got_of : Connection → Entry → StructNo × Op
 got_of c e = (c.structure, Got e.id)
@@ -87,6 +108,44 @@ got u t c e logged p = record p {
   managers = with_found u.member t c (Some e) p.managers;
   logs = with_log u.member (fallen_back t u true (with_record_of t logged (log_in u.member p.logs))) p.logs;
 }
+
+-- the same of a get that goes on, since the body stands outside: it keeps what was reserved
+abbrev pub got_outside : UnitName → TaskNo → Connection → Entry → Option ℕ → Owned → Owned
+got_outside u t c e logged p = record p {
+  structures = with_taken u c (Some e) p.structures;
+  managers = with_found u.member t c (Some e) p.managers;
+  logs = with_log u.member (with_record_of t logged (log_in u.member p.logs)) p.logs;
+}
+
+-- the unit has operations without its last one
+abbrev pub has_more : Member → TaskNo → Owned → Bool
+has_more m t p = nat_lt 0 (length (task_at m t (with_dropped m t p.managers)).ops)
+
+-- The last operation of a unit, a get, is undone: where its structure serves its connection the entry is visible again,
+-- its records fill their pages as they did before it, and what the unit needs is reserved.
+abbrev pub ungot : UnitName → TaskNo → Claim → Filling → Owned → Owned
+ungot u t c before p = record p {
+  structures = with_structure c.connection.structure (revised_if_done (settle_answer (structure_in c.connection.structure p.structures) c.connection c.id u) c.id (settled_entry false) (structure_in c.connection.structure p.structures)) p.structures;
+  managers = with_dropped u.member t p.managers;
+  logs = with_log u.member (fallen_back t u (has_more u.member t p) (with_filling t before (log_in u.member p.logs))) p.logs;
+}
+
+-- ---- an entry goes
+
+-- a removed entry is deleted, and its blocks are free in its owner's map, where that stands for the epoch
+abbrev pub forgotten : Member → Connection → Entry → List Block → Owned → Owned
+forgotten m c e blocks p = record p {
+  structures = with_structure c.structure (record (structure_in c.structure p.structures) { entries = revise e.id deleted (structure_in c.structure p.structures).entries }) p.structures;
+  datasets = with_set m c.structure (freed c.epoch blocks (set_in m c.structure p.datasets)) p.datasets;
+}
+
+-- it is one that its owner removed
+pub record IsToForget (m : Member) (c : Connection) (e : Entry) (blocks : List Block) (n : ℕ) (p : Owned) : Type 0 where
+  pub up : (manager_in m p.managers).up ≡ true
+  pub served : lost_of (structure_in c.structure p.structures) c ≡ None
+  pub at : entry_at e.id (structure_in c.structure p.structures).entries ≡ Some e
+  pub mark : is_cleanup e.mark ≡ true
+  pub place : e.place ≡ Offloaded m blocks n
 
 -- ---- a unit is committed
 
@@ -162,3 +221,24 @@ published m page p = record p { repo = told_low m (record { number = page }) p.r
 -- the page is the first one that a unit of the member needs, or else the next page of its log
 abbrev pub IsLowPage : Member → ℕ → Owned → Type 0
 IsLowPage m page p = page ≡ (elim (first_needed (manager_in m p.managers).tasks) [ None ↦ (log_in m p.logs).writer.next | Some first ↦ first.number ])
+
+-- ---- a member stops
+
+-- no unit of it has an operation
+abbrev pub IsUnused : Member → Owned → Type 0
+IsUnused m p = (t : TaskNo) (u : UnitName) → (task_at m t p.managers).unit ≡ Some u → task_at m t p.managers ≡ open_task u [] []
+
+-- it is down: its tasks hold nothing, and nothing of its log is reserved
+abbrev pub stopping : Member → Owned → Owned
+stopping m p = record p {
+  managers = with_down m p.managers;
+  logs = with_log m (restarted (log_in m p.logs).writer.next (log_in m p.logs)) p.logs;
+}
+
+-- its incarnation has stopped, and its maps are gone
+abbrev pub stopped : Member → Owned → Owned
+stopped m p = record p { repo = stopped_in m p.repo; datasets = emptied_all m p.datasets }
+
+-- the repository has this of a member's data set for a structure
+abbrev pub with_status : Member → StructNo → Smds → Owned → Owned
+with_status m s status p = record p { repo = with_smds m s status p.repo }

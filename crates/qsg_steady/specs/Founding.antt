@@ -2,6 +2,7 @@
 use Rattle.std.specs.Prelude.{ℕ, ◌≡◌, ◌≤◌, ◌<◌, ◌*◌, true, false, [], length, None, replicate}
 use Rattle.std.specs.List.{AllByRecursion}
 use Rattle.qsg_num.specs.declared.seats.Member.{Member}
+use Rattle.qsg_num.specs.declared.seats.StructNo.{StructNo}
 use Rattle.qsg_num.specs.Seats.{member_number}
 use Rattle.qsg_disk.specs.Byte.{zero_byte}
 use Rattle.qsg_lists.specs.declared.parts.State.TheVariants.{Active}
@@ -12,8 +13,10 @@ use Rattle.qsg_repo.specs.Tables.{page_at, no_holds}
 use Rattle.qsg_lists.specs.Structures.{ListStructure}
 use Rattle.qsg_logs.specs.Kept.{KeptLog, no_fillings}
 use Rattle.qsg_logs.specs.Writers.{new_writer}
-use Rattle.qsg_dataset.specs.Contents.{extent_of}
-use Rattle.qsg_datasets.specs.Kept.{KeptSet, no_hands}
+use Rattle.qsg_dataset.specs.Contents.{IsSized, extent_of}
+use Rattle.qsg_datasets.specs.Kept.{KeptSet, set_in, no_hands}
+use Rattle.qsg_blocks.specs.State.{IsThere}
+use Rattle.qsg_blocks.specs.Laws.{AreAlike}
 use Rattle.qsg_parts.specs.Owned.{Owned, HasStructures, HasDataSets}
 use Rattle.qsg_steady.specs.Steady.{IsListed}
 
@@ -37,12 +40,13 @@ pub record IsNewStructure (structure : ListStructure) : Type 0 where
 
 -- a data set of which its member keeps nothing, over zeros where its device tells its bytes
 pub record IsNewSet (set : KeptSet) : Type 0 where
+  pub sized : IsSized (extent_of set.contents) set.contents.block_size set.contents.blocks
   pub map : set.map ≡ None
   pub hands : set.hands ≡ no_hands
   pub zeros : set.contents.tells ≡ true → set.contents.bytes ≡ replicate (extent_of set.contents) zero_byte
 
--- Structures, logs and data sets are new, members are up for the first time, as the repository has them, no incarnation failed,
--- and it has no note and no hold.
+-- Structures, logs and data sets are new, the data sets of a structure are as large as each other, members are up for the
+-- first time, as the repository has them, no incarnation failed, and it has no note and no hold.
 pub record IsNew (p : Owned) : Type 0 where
   pub members : length p.logs ≡ length p.managers
   pub few : length p.managers ≤ 8
@@ -51,6 +55,7 @@ pub record IsNew (p : Owned) : Type 0 where
   pub managers : AllByRecursion (λ (x : Manager). x ≡ new_manager) p.managers
   pub logs : AllByRecursion IsNewLog p.logs
   pub sets : AllByRecursion (AllByRecursion IsNewSet) p.datasets
+  pub alike : (s : StructNo) (m k : Member) → IsThere (set_in m s p.datasets) → IsThere (set_in k s p.datasets) → AreAlike (set_in m s p.datasets) (set_in k s p.datasets)
   pub structures : AllByRecursion IsNewStructure p.structures
   pub listed : (m : Member) → member_number m ≤ length p.managers → IsListed m new_manager p.repo
   pub unfailed : (m : Member) (i : ℕ) → is_unresolved m (record { number = i }) p.repo ≡ false

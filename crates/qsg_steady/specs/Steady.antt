@@ -1,5 +1,5 @@
--- What a group keeps between any two steps: what holds over all devices, and where each log tells its bytes also the
--- laws of the machine.
+-- What a group keeps between any two steps: what holds over all devices, and where each log and each data set tells its
+-- bytes also the laws of the machine and those on blocks.
 use Rattle.std.specs.Prelude.{ℕ, ◌+◌, ◌<◌, ◌≤◌, ◌≡◌, Bool, true, ◌&&◌, List, ◌∷◌, ◌++◌, length, Option, Some, None, is_some, if◌then◌else◌, sum_by, count_by}
 use Rattle.std.specs.List.{AllByRecursion, list_any, flat_map}
 use Rattle.qsg_num.specs.declared.seats.Member.{Member}
@@ -28,6 +28,10 @@ use Rattle.qsg_manager.specs.Facilities.{structure_in}
 use Rattle.qsg_manager.specs.Groups.{seat_of, Rest, group_of}
 use Rattle.qsg_manager.specs.Latches.{latch_of, needed_by}
 use Rattle.qsg_manager.specs.Storage.{task_in, manager_in, task_at}
+use Rattle.qsg_manager.specs.Views.{Outside}
+use Rattle.qsg_blocks.specs.State.{AreTold, outside_of}
+use Rattle.qsg_blocks.specs.Laws.{IsFitting, Laws as BlockLaws}
+use Rattle.qsg_bodies.specs.Grounds.{ground_of}
 use Rattle.qsg_logs.specs.Held.{AreHeld}
 use Rattle.qsg_logs.specs.Kept.{KeptLog, log_in}
 use Rattle.qsg_parts.specs.Owned.{Owned, HasStructures, HasDataSets}
@@ -132,15 +136,31 @@ pub record IsCounted (answered busy : ℕ) (p : Owned) : Type 0 where
   pub names : (m : Member) → (manager_in m p.managers).next ≤ 1 + answered + busy
   pub ids : (s : StructNo) → (structure_in s p.structures).last ≤ answered
 
--- each log of the group tells its bytes
-abbrev pub AreTelling : Owned → Type 0
-AreTelling p = (m : Member) → member_number m ≤ length p.logs → (log_in m p.logs).tells ≡ true
+-- each log and each data set of the group tells its bytes
+pub record AreTelling (p : Owned) : Type 0 where
+  pub logs : (m : Member) → member_number m ≤ length p.logs → (log_in m p.logs).tells ≡ true
+  pub sets : (s : StructNo) → AreTold (ground_of s p).sets
 
--- The laws of the machine hold of the group that it sees, and logs tell of the units that it sees in them.
+-- what the data sets of the group read
+abbrev pub outside_in : Owned → Outside
+outside_in p = λ s. outside_of (ground_of s p).sets
+
+-- over every device: blocks of each structure of the group are in range, and each body outside has as many as it needs
+abbrev pub AreFitting : Owned → Type 0
+AreFitting p = (s : StructNo) → structure_number s ≤ length p.structures → IsFitting (ground_of s p)
+
+-- the laws on blocks hold of each structure of the group
+abbrev pub HaveBlockLaws : Owned → Type 0
+HaveBlockLaws p = (s : StructNo) → structure_number s ≤ length p.structures → BlockLaws (ground_of s p)
+
+-- The laws of the machine hold of the group that it sees, with the bodies that data sets read, and logs tell of the units
+-- that it sees in them.
 pub record IsLawful (p : Owned) : Type 0 where
   pub rest : Rest
+  pub outside : (s : StructNo) → rest.outside s ≡ outside_in p s
   pub mirrored : IsMirrored rest p
   pub laws : Laws (group_of rest p.structures p.managers)
+  pub blocks : HaveBlockLaws p
   pub logs : (m : Member) → member_number m ≤ length p.managers → IsSeen m (rest.logs m) (manager_in m p.managers) p.repo (log_in m p.logs)
 
 pub record IsSteady (answered busy : ℕ) (p : Owned) : Type 0 where
@@ -162,5 +182,6 @@ pub record IsSteady (answered busy : ℕ) (p : Owned) : Type 0 where
   -- the history has room for each unit that is being written
   pub room : writing p.managers ≤ p.history.room
   pub counted : IsCounted answered busy p
+  pub fitting : AreFitting p
   -- over a log that tells nothing, peers settle as their reader answers
   pub lawful : AreTelling p → IsLawful p

@@ -22,7 +22,10 @@ ghost use Rattle.qsg_manager.specs.Latches.{latch_of};
 ghost use Rattle.qsg_manager.specs.Settles.{next_claim};
 ghost use Rattle.qsg_manager.specs.Storage.{manager_in, task_at, next_name};
 ghost use Rattle.qsg_logs.specs.Kept.{log_in};
+ghost use Rattle.qsg_datasets.specs.Kept.{HasSet};
 ghost use Rattle.qsg_parts.specs.Owned.{Owned, HasMember};
+ghost use Rattle.qsg_blocks.specs.Laws.{IsFitting, Laws as BlockLaws};
+ghost use Rattle.qsg_bodies.specs.Grounds.{ground_of};
 ghost use Rattle.qsg_steady.specs.Steady.{IsLive, IsOver, AreTelling, IsLawful, IsSteady};
 
 /// Each of its members has a log.
@@ -95,4 +98,12 @@ pub fn an_unresolved_incarnation_has_ended()
 pub fn a_member_that_is_down_is_idle()
     ensures tasks { (a b : ℕ) (p : Owned) (m : Member) (t : TaskNo) → IsSteady a b p → (manager_in m p.managers).up ≡ false → task_at m t p.managers ≡ idle }
     ensures hand { (a b : ℕ) (p : Owned) (m : Member) → IsSteady a b p → HasMember m p → (manager_in m p.managers).up ≡ false → (log_in m p.logs).writer.hand ≡ None }
+{}
+
+/// The group has the data set of each of its members for each of its structures. Over every device blocks are in range,
+/// and where all tell their bytes the laws on blocks hold.
+pub fn data_sets_are_there()
+    ensures has { (a b : ℕ) (p : Owned) (m : Member) (s : StructNo) → IsSteady a b p → HasMember m p → structure_number s ≤ length p.structures → HasSet m s p.datasets }
+    ensures fitting { (a b : ℕ) (p : Owned) (s : StructNo) → IsSteady a b p → structure_number s ≤ length p.structures → IsFitting (ground_of s p) }
+    ensures laws { (a b : ℕ) (p : Owned) (s : StructNo) → IsSteady a b p → AreTelling p → structure_number s ≤ length p.structures → BlockLaws (ground_of s p) }
 {}

@@ -4,7 +4,7 @@ use Rattle.std.specs.Option.{option_and_then}
 use Rattle.qsg_num.specs.declared.seats.Member.{Member}
 use Rattle.qsg_num.specs.declared.seats.Member.TheVariants as member
 use Rattle.qsg_num.specs.Seats.{member_number}
-use Rattle.qsg_peer.specs.Reading.{reading_of}
+use Rattle.qsg_peers.specs.Works.{reading_of}
 use Rattle.qsg_peers.specs.Peers.{Peer, peer_of}
 
 -- the members that a group may have, in order

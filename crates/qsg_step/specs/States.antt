@@ -1,5 +1,5 @@
 -- what contracts see of a group that works its plan
-use Rattle.std.specs.Prelude.{ℕ, ◌-◌, ◌≤◌, Bool, true, false, List, Option, slice_index_or, slice_set}
+use Rattle.std.specs.Prelude.{ℕ, ◌≤◌, Bool, true, false, List, Option, slice_index_or, slice_set}
 use Rattle.std.specs.List.{AllByRecursion}
 use Rattle.qsg_num.specs.declared.seats.Member.{Member}
 use Rattle.qsg_num.specs.declared.seats.TaskNo.{TaskNo}
@@ -15,12 +15,13 @@ use Rattle.qsg_parts.specs.Owned.{Owned}
 use Rattle.qsg_works.specs.declared.work.Work.{Work}
 use Rattle.qsg_works.specs.InHand.{place}
 use Rattle.qsg_start.specs.Works.{Work as StartWork}
+use Rattle.qsg_stop.specs.declared.work.StopWork.{StopWork}
 use Rattle.qsg_peers.specs.Peers.{Peer}
 use Rattle.qsg_tallies.specs.Tallies.{Tallied}
 
 -- What it owns, what its actors are to do and answered, the request that each task has in hand, the tasks whose next
--- request is answered 2009, the system task of each member, the START in progress, what is counted of incarnations that
--- failed, and what the plan says besides.
+-- request is answered 2009, the system task of each member, the START and the STOP in progress, what is counted of
+-- incarnations that failed, and what the plan says besides.
 pub record State : Type 0 where
   pub parts : Owned
   pub courses : List Course
@@ -28,6 +29,7 @@ pub record State : Type 0 where
   pub due : List Bool
   pub peers : List Peer
   pub starting : Option StartWork
+  pub stopping : Option StopWork
   pub tallies : Tallied
   pub group : List ℕ
   pub members : List MemberDef

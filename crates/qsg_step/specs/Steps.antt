@@ -26,12 +26,17 @@ use Rattle.qsg_start.specs.declared.phases.StartTurn.{StartTurn}
 use Rattle.qsg_start.specs.declared.phases.StartTurn.TheVariants as starts
 use Rattle.qsg_start.specs.Works.{Work as StartWork, new_work as new_start}
 use Rattle.qsg_start.specs.Steps.{NextStart}
+use Rattle.qsg_stop.specs.declared.phases.StopTurn.{StopTurn}
+use Rattle.qsg_stop.specs.declared.phases.StopTurn.TheVariants as stops
+use Rattle.qsg_stop.specs.declared.work.StopWork.{StopWork}
+use Rattle.qsg_stop.specs.Steps.{begun as stop_begun, new_work as new_stop, NextStop}
 use Rattle.qsg_peer.specs.declared.phases.FailedLife.{FailedLife}
-use Rattle.qsg_peer.specs.Works.{Work as PeerWork, new_work as new_peer_work}
-use Rattle.qsg_peers.specs.Peers.{Peer, peer_of, with_peer, in_hand, Steps as PeerSteps}
+use Rattle.qsg_peers.specs.declared.work.SystemWork.{SystemWork}
+use Rattle.qsg_peers.specs.Peers.{Peer, peer_of, with_peer, ended_peer, in_hand, Steps as PeerSteps}
+use Rattle.qsg_peers.specs.Choosing.{work_before as system_work_of}
 use Rattle.qsg_tallies.specs.Tallies.{Tallied, counted}
 use Rattle.qsg_step.specs.declared.asked.Asked.{Asked}
-use Rattle.qsg_step.specs.declared.asked.Asked.TheVariants.{Work, Until, Crash, Start, Later}
+use Rattle.qsg_step.specs.declared.asked.Asked.TheVariants.{Work, Until, Crash, Start, Stop, Later}
 use Rattle.qsg_step.specs.declared.step.Step.{Step}
 use Rattle.qsg_step.specs.declared.step.Step.TheVariants.{Moved, Waits, Done}
 use Rattle.qsg_step.specs.Asking.{asked}
@@ -135,6 +140,37 @@ pub record IsStartStep (m : Member) (d : Directive) (s r : State) : Type 0 where
   pub next : NextStart (start_before m s) s.parts (Ok turn) work parts
   pub after : r ≡ started_as (start_reply m turn) d work parts s
 
+-- ---- the operator's STOP
+
+-- At its check the member is down, and its tasks and its system task hold nothing. It keeps its maps, which the STOP saves.
+abbrev pub stop_checked : Member → State → State
+stop_checked m s = record s {
+  parts = stop_begun m s.parts;
+  peers = with_peer m (ended_peer (peer_of m s.peers)) s.peers;
+  stopping = Some (new_stop m s.parts);
+}
+
+-- one that is down stays so
+abbrev pub StopChecks : Bool → Member → Directive → State → State → Type 0
+StopChecks true m d s r = r ≡ stop_checked m s
+StopChecks false m d s r = r ≡ with_answer actor.Operator d (reply.Refused reason.Down) s
+
+abbrev pub stopped_as : StopTurn → Directive → StopWork → Owned → State → State
+stopped_as stops.More d work q s = record s { parts = q; stopping = Some work }
+stopped_as stops.Stopped d work q s = record (with_answer actor.Operator d reply.Done s) { parts = q; stopping = None }
+
+-- a step behind the check
+pub record IsStopStep (before : StopWork) (d : Directive) (s r : State) : Type 0 where
+  pub turn : StopTurn
+  pub work : StopWork
+  pub parts : Owned
+  pub next : NextStop before s.parts turn work parts
+  pub after : r ≡ stopped_as turn d work parts s
+
+abbrev pub StopSteps : Option StopWork → Member → Directive → State → State → Type 0
+StopSteps None m d s r = StopChecks (is_member_up m s) m d s r
+StopSteps (Some before) m d s r = IsStopStep before d s r
+
 -- ---- an actor's directive
 
 -- what an actor does that doesn't wait
@@ -143,6 +179,7 @@ StepAsked who d (Work m t) s step r = RequestSteps (is_due m t s.due) m t d s st
 StepAsked who d (Until other answers) s step r = (step ≡ Moved) × (r ≡ with_answer who d reply.Done s)
 StepAsked who d (Crash m pick) s step r = (step ≡ Moved) × CrashSteps (is_member_up m s) m d s r
 StepAsked who d (Start m) s step r = (step ≡ Moved) × IsStartStep m d s r
+StepAsked who d (Stop m) s step r = (step ≡ Moved) × StopSteps s.stopping m d s r
 StepAsked who d Later s step r = (step ≡ Moved) × (r ≡ with_answer who d (reply.Refused reason.NotYet) s)
 
 abbrev pub StepUnless : Actor → Directive → Option Cause → State → Step → State → Type 0
@@ -156,17 +193,9 @@ StepAt who (Some d) s step r = StepUnless who d (cause_of who (asked who d) s) s
 
 -- ---- a system task
 
--- the work that it has in hand, or a new one
-abbrev pub peer_work_or : Member → Option PeerWork → PeerWork
-peer_work_or m None = new_peer_work m
-peer_work_or m (Some work) = work
-
-abbrev pub peer_work_before : Member → State → PeerWork
-peer_work_before m s = peer_work_or m (peer_of m s.peers).work
-
--- with a work in hand
-abbrev pub peer_before : Member → State → Peer
-peer_before m s = in_hand (peer_work_before m s) (peer_of m s.peers)
+-- the work that it has in hand, or else the next one
+abbrev pub system_work_before : Member → State → Option SystemWork
+system_work_before m s = system_work_of m (peer_of m s.peers) s.parts
 
 -- the mark that it took off is counted
 abbrev pub tallied : Option FailedLife → Member → Tallied → Tallied
@@ -174,15 +203,19 @@ tallied None m tallies = tallies
 tallied (Some life) m tallies = counted life.member life.incarnation m tallies
 
 -- a step of the work of a member's system task
-pub record IsPeerStep (m : Member) (s r : State) : Type 0 where
+pub record IsSystemStep (m : Member) (before : SystemWork) (s r : State) : Type 0 where
   pub off : Option FailedLife
   pub peer : Peer
   pub parts : Owned
-  pub steps : PeerSteps (length s.parts.history.items) (peer_work_before m s) s.parts (Ok off) (peer_before m s) peer parts
+  pub steps : PeerSteps (length s.parts.history.items) before s.parts (Ok off) (in_hand before (peer_of m s.peers)) peer parts
   pub after : r ≡ record s { parts = parts; peers = with_peer m peer s.peers; tallies = tallied off m s.tallies }
 
+abbrev pub SystemWorkSteps : Option SystemWork → Member → State → State → Type 0
+SystemWorkSteps None m s r = ⊥
+SystemWorkSteps (Some before) m s r = IsSystemStep m before s r
+
 abbrev pub SystemSteps : Bool → Member → State → Step → State → Type 0
-SystemSteps true m s step r = (step ≡ Moved) × IsPeerStep m s r
+SystemSteps true m s step r = (step ≡ Moved) × SystemWorkSteps (system_work_before m s) m s r
 SystemSteps false m s step r = (step ≡ Done) × (r ≡ s)
 
 -- ---- a step of an actor

@@ -1,5 +1,5 @@
 -- why a step waits, and who has work left
-use Rattle.std.specs.Prelude.{ℕ, Bool, true, false, not, nat_lt, ◌&&◌, ◌||◌, if◌then◌else◌, List, length, Option, Some, None, is_some, option_map}
+use Rattle.std.specs.Prelude.{ℕ, Bool, true, false, not, nat_lt, ◌&&◌, ◌||◌, if◌then◌else◌, List, [], ◌∷◌, length, Option, Some, None, is_some, option_map, find}
 use Rattle.qsg_num.specs.declared.seats.Member.{Member}
 use Rattle.qsg_num.specs.declared.seats.TaskNo.{TaskNo}
 use Rattle.qsg_num.specs.declared.seats.TaskNo.TheVariants as task
@@ -8,14 +8,14 @@ use Rattle.qsg_num.specs.declared.ids.Actor.TheVariants as actor
 use Rattle.qsg_objects.specs.declared.directives.Directive.{Directive}
 use Rattle.qsg_objects.specs.declared.directives.Directive.TheVariants as directive
 use Rattle.qsg_requests.specs.declared.replies.Cause.{Cause}
-use Rattle.qsg_requests.specs.declared.replies.Cause.TheVariants.{Down, LogBusy, Until, Reading}
+use Rattle.qsg_requests.specs.declared.replies.Cause.TheVariants.{Down, LogBusy, Until, Quiescing, Reading}
 use Rattle.qsg_requests.specs.declared.transcript.Answer.{Answer}
 use Rattle.qsg_agenda.specs.Courses.{answers_of, next_of}
-use Rattle.qsg_repo.specs.Lives.{first_open}
 use Rattle.qsg_manager.specs.Latches.{latch_of}
 use Rattle.qsg_manager.specs.Storage.{manager_in, task_at}
 use Rattle.qsg_works.specs.InHand.{work_of}
 use Rattle.qsg_peers.specs.Peers.{peer_of}
+use Rattle.qsg_peers.specs.Choosing.{has_work as has_system_work}
 use Rattle.qsg_step.specs.declared.asked.Asked.{Asked}
 use Rattle.qsg_step.specs.declared.asked.Asked.TheVariants as asks
 use Rattle.qsg_step.specs.Asking.{asked}
@@ -64,20 +64,39 @@ until who answers s = if nat_lt (length (told_to who s)) answers then Some (Unti
 abbrev pub reading : Member → State → Option Cause
 reading m s = if is_some s.starting || is_member_up m s then None else option_map (λ n. Reading n task.System) (reader_of m s.peers)
 
+-- a task has a unit with an operation, or a request in progress
+abbrev pub is_in_use : Member → TaskNo → State → Bool
+is_in_use m t s = is_some (work_of m t s.works) || has_unit (task_at m t s.parts.managers)
+
+-- so is a task; the system task has a work in hand
+abbrev pub is_busy : Member → State → TaskNo → Bool
+is_busy m s task.System = is_some (peer_of m s.peers).work
+is_busy m s t = is_in_use m t s
+
+-- the least of a member's tasks that is, its system task among them
+abbrev pub busy_task : Member → State → Option TaskNo
+busy_task m s = find (is_busy m s) (task.System ∷ task.One ∷ task.Two ∷ task.Three ∷ task.Four ∷ [])
+
+-- a STOP that is at its check waits for it
+abbrev pub quiescing : Member → State → Option Cause
+quiescing m s = if is_member_up m s then option_map Quiescing (busy_task m s) else None
+
 abbrev pub cause_asked : Asked → State → Option Cause
 cause_asked (asks.Work m t) s = option_map LogBusy (busy m t s)
 cause_asked (asks.Until who answers) s = until who answers s
 cause_asked (asks.Crash m pick) s = None
 cause_asked (asks.Start m) s = reading m s
+cause_asked (asks.Stop m) s = quiescing m s
 cause_asked asks.Later s = None
 
 -- why the step of an actor whose next directive asks for this waits, if it does
 abbrev pub cause_of : Actor → Asked → State → Option Cause
 cause_of who asked s = if is_up who s then cause_asked asked s else Some Down
 
--- A system task has work while its member is up: one in hand, or an unresolved incarnation that it hasn't given up.
+-- A system task has work while its member is up: one in hand, an unresolved incarnation that it hasn't given up, or an
+-- entry of its own to clean.
 abbrev pub has_work : Member → State → Bool
-has_work m s = is_member_up m s && (is_some (peer_of m s.peers).work || is_some (first_open (peer_of m s.peers).given_up s.parts.repo.lives))
+has_work m s = is_member_up m s && has_system_work m (peer_of m s.peers) s.parts
 
 -- an actor waits, or has no work left
 abbrev pub is_idle_at : Actor → Option Directive → State → Bool

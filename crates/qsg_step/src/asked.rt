@@ -17,6 +17,8 @@ pub enum Asked {
     Crash(Member, u64),
     /// The member comes up again. Only the operator asks for it.
     Start(Member),
+    /// The member stops. Only the operator asks for it.
+    Stop(Member),
     /// This part of the group isn't built yet.
     Later,
 }
@@ -46,13 +48,13 @@ pub fn asks_for(actor: Actor, directive: &Directive) -> Asked
         Directive::Wait(who, answers) => Asked::Until(*who, *answers),
         Directive::Crash(member, pick) => if_operator(actor, Asked::Crash(*member, *pick)),
         Directive::Start(member) => if_operator(actor, Asked::Start(*member)),
+        Directive::Stop(member) => if_operator(actor, Asked::Stop(*member)),
         Directive::Backup(_)
         | Directive::Recover(..)
         | Directive::ResetSmds(..)
         | Directive::DisplayCfstatus(_)
         | Directive::DisplayQueue(_)
         | Directive::DisplaySmds(_)
-        | Directive::Stop(_)
         | Directive::Lose(_) => Asked::Later,
     }
 }

@@ -117,6 +117,7 @@ impl<D: Disk + Drop> Sysplex<D> {
                 due: Dues::new(),
                 peers,
                 starting: None,
+                stopping: None,
                 tallies,
                 group,
                 members,

@@ -14,7 +14,7 @@ use Rattle.qsg_step.specs.declared.asked.Asked.{Asked}
 use Rattle.qsg_step.specs.declared.asked.Asked.TheVariants as asks
 use Rattle.qsg_step.specs.declared.step.Step.{Step}
 use Rattle.qsg_step.specs.Asking.{asked, IsOwn}
-use Rattle.qsg_step.specs.Needs.{MayAsk, MayEnd, MayMoveAs}
+use Rattle.qsg_step.specs.Needs.{MayAsk, MayEnd, MayStop, MayMoveAs}
 use Rattle.qsg_step.specs.States.{State, is_member_up}
 use Rattle.qsg_step.specs.Steps.{start_before, StepAsked, StepUnless, StepAt}
 use Rattle.qsg_step.specs.Waiting.{cause_of}
@@ -59,3 +59,6 @@ crash_may who given m pick s has is may = with_next _ who s.courses has (λ d ne
 
 pub start_may : (who : Actor) (given : Asked) (m : Member) (s : State) → IsSome (next_of who s.courses) → given ≡ asks.Start m → MayAskNext who given s → MayStepStart (start_before m s) s.parts
 start_may who given m s has is may = with_next _ who s.courses has (λ d next. subst (λ (a : Asked). MayAsk d a s) is (may d next))
+
+pub stop_may : (who : Actor) (given : Asked) (m : Member) (s : State) → IsSome (next_of who s.courses) → given ≡ asks.Stop m → MayAskNext who given s → MayStop s.stopping m s
+stop_may who given m s has is may = with_next _ who s.courses has (λ d next. subst (λ (a : Asked). MayAsk d a s) is (may d next))

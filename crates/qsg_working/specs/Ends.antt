@@ -1,5 +1,5 @@
 -- where a run of a group ends
-use Rattle.std.specs.Prelude.{Bool, not, ◌&&◌, Option, Some, None, is_some}
+use Rattle.std.specs.Prelude.{Bool, not, ◌&&◌, Option, Some, None}
 use Rattle.std.specs.List.{list_all}
 use Rattle.qsg_num.specs.declared.seats.Member.{Member}
 use Rattle.qsg_num.specs.declared.ids.Actor.{Actor}
@@ -7,16 +7,10 @@ use Rattle.qsg_num.specs.declared.ids.Actor.TheVariants as actor
 use Rattle.qsg_objects.specs.declared.directives.Directive.{Directive}
 use Rattle.qsg_requests.specs.declared.replies.Cause.{Cause}
 use Rattle.qsg_agenda.specs.Courses.{next_of, is_through}
-use Rattle.qsg_repo.specs.Lives.{first_open}
-use Rattle.qsg_peers.specs.Peers.{peer_of}
 use Rattle.qsg_step.specs.Asking.{asked}
 use Rattle.qsg_step.specs.Reading.{members}
 use Rattle.qsg_step.specs.States.{State}
 use Rattle.qsg_step.specs.Waiting.{cause_of, has_work, system_of, is_idle, is_member_idle}
-
--- there is an unresolved incarnation that the system task of a member hasn't given up
-abbrev pub finds_work : Member → State → Bool
-finds_work m s = is_some (first_open (peer_of m s.peers).given_up s.parts.repo.lives)
 
 -- why an actor with a directive left waits, if it does
 abbrev pub cause_at : Actor → State → Option Directive → Option Cause

@@ -9,7 +9,7 @@ use Rattle.qsg_lists.specs.Structures.{ListStructure, IsSound as IsStructureSoun
 use Rattle.qsg_manager.specs.Facilities.{structure_in}
 use Rattle.qsg_logs.specs.Kept.{KeptLog, log_in, IsKept as IsLogKept}
 use Rattle.qsg_start.specs.Works.{Work as StartWork, IsSound as IsStartSound}
-use Rattle.qsg_peer.specs.Works.{IsSound as IsPeerSound}
+use Rattle.qsg_peers.specs.Works.{IsSound as IsSystemSound}
 use Rattle.qsg_peers.specs.Peers.{Peer, peer_of}
 
 abbrev pub AreLogsKept : List KeptLog → Type 0
@@ -21,7 +21,7 @@ AreStructuresKept structures = (s : StructNo) → structure_number s ≤ length 
 -- there is a system task of each member that a group may have
 pub record ArePeersKept (peers : List Peer) : Type 0 where
   pub eight : length peers ≡ 8
-  pub works : (m : Member) → IfSome (peer_of m peers).work (λ work. IsPeerSound work.phase work.walk)
+  pub works : (m : Member) → IfSome (peer_of m peers).work IsSystemSound
 
 abbrev pub IsStartKept : Option StartWork → Type 0
 IsStartKept starting = IfSome starting (λ work. IsStartSound work.phase work.walk)

@@ -1,5 +1,5 @@
 -- what a step needs of the group besides, and which steps need no memory
-use Rattle.std.specs.Prelude.{◌≡◌, ◌≤◌, Bool, true, false, not, ◌||◌, length, Option, Some, None}
+use Rattle.std.specs.Prelude.{◌≡◌, ◌≤◌, Bool, true, false, not, ◌&&◌, ◌||◌, length, Option, Some, None}
 use Rattle.std.specs.List.{AllByRecursion}
 use Rattle.qsg_num.specs.declared.seats.Member.{Member}
 use Rattle.qsg_num.specs.declared.ids.Actor.{Actor}
@@ -11,11 +11,13 @@ use Rattle.qsg_works.specs.declared.work.Work.{Work as Request_in_progress}
 use Rattle.qsg_works.specs.declared.work.Work.TheVariants.{Put, Get, Commit}
 use Rattle.qsg_works.specs.InHand.{work_of}
 use Rattle.qsg_start.specs.Needs.{takes_memory as start_takes_memory}
-use Rattle.qsg_peer.specs.Needs.{takes_memory}
-use Rattle.qsg_peer.specs.Works.{Work as PeerWork}
-use Rattle.qsg_peers.specs.Peers.{peer_of}
+use Rattle.qsg_peers.specs.declared.work.SystemWork.{SystemWork}
+use Rattle.qsg_peers.specs.Works.{takes_memory}
+use Rattle.qsg_peers.specs.Peers.{Peer, peer_of}
+use Rattle.qsg_peers.specs.Choosing.{begins_recovery}
+use Rattle.qsg_parts.specs.Owned.{Owned}
 use Rattle.qsg_step.specs.declared.asked.Asked.{Asked}
-use Rattle.qsg_step.specs.declared.asked.Asked.TheVariants.{Work, Until, Crash, Start, Later}
+use Rattle.qsg_step.specs.declared.asked.Asked.TheVariants.{Work, Until, Crash, Start, Stop, Later}
 use Rattle.qsg_step.specs.Asking.{asked}
 use Rattle.qsg_step.specs.States.{State, is_due, IsCourseRight}
 use Rattle.qsg_step.specs.Steps.{start_before}
@@ -56,19 +58,23 @@ asks_no_memory (Work m t) s = is_due m t s.due || is_ending (work_of m t s.works
 asks_no_memory (Until other answers) s = true
 asks_no_memory (Crash m pick) s = true
 asks_no_memory (Start m) s = not (start_takes_memory (start_before m s))
+asks_no_memory (Stop m) s = true
 asks_no_memory Later s = true
 
 abbrev pub next_needs_none : Actor → Option Directive → State → Bool
 next_needs_none who None s = true
 next_needs_none who (Some d) s = asks_no_memory (asked who d) s
 
--- a system task needs memory to begin, and where it reads or feeds a page of a log
-abbrev pub peer_needs_none : Option PeerWork → Bool
-peer_needs_none None = false
-peer_needs_none (Some work) = not (takes_memory work)
+-- a system task needs memory to begin a recovery, and where that reads or feeds a page of a log
+abbrev pub work_needs_none : Option SystemWork → Bool
+work_needs_none None = true
+work_needs_none (Some work) = not (takes_memory work)
+
+abbrev pub peer_needs_none : Peer → Owned → Bool
+peer_needs_none peer p = not (begins_recovery peer p) && work_needs_none peer.work
 
 abbrev pub system_needs_none : Member → State → Bool
-system_needs_none m s = not (has_work m s) || peer_needs_none (peer_of m s.peers).work
+system_needs_none m s = not (has_work m s) || peer_needs_none (peer_of m s.peers) s.parts
 
 abbrev pub needs_none_as : Option Member → Actor → State → Bool
 needs_none_as (Some m) who s = system_needs_none m s

@@ -11,6 +11,7 @@ state_of w = record {
   due = w.due;
   peers = w.peers;
   starting = w.starting;
+  stopping = w.stopping;
   tallies = w.tallies;
   group = w.group;
   members = w.members;

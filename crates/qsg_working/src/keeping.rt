@@ -6,7 +6,6 @@ ghost use Rattle.qsg_agenda.specs.Courses.{next_of};
 ghost use Rattle.qsg_lists.specs.Structures.{IsSound as IsStructureSound};
 ghost use Rattle.qsg_manager.specs.Facilities.{structure_in};
 ghost use Rattle.qsg_logs.specs.Kept.{log_in, IsKept as IsLogKept};
-ghost use Rattle.qsg_peer.specs.Works.{IsSound as IsPeerSound};
 ghost use Rattle.qsg_peers.specs.Peers.{peer_of};
 ghost use Rattle.qsg_working.specs.Kept.{AreLogsKept, AreStructuresKept, ArePeersKept, IsStartKept, HasIds};
 

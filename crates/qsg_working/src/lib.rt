@@ -8,6 +8,7 @@
 //! - `replies`: replies without the room that their steps had made for them.
 //! - `ending`: the end of a member.
 //! - `starting`: a step of a START.
+//! - `stopping`: a step of a STOP.
 //! - `systems`: a step of a system task.
 //! - `requesting`: a step of a task's request.
 //! - `stepping`: what each step of an actor does.
@@ -23,6 +24,7 @@ mod replies;
 mod requesting;
 mod starting;
 mod stepping;
+mod stopping;
 mod systems;
 mod waiting;
 mod working;

@@ -70,6 +70,7 @@ impl<D: Disk> Working<D> {
             Asked::Until(..) => Ok(self.answer(actor, Reply::Done)),
             Asked::Crash(member, pick) => Ok(self.crash(alloc, member, pick)),
             Asked::Start(member) => self.start(alloc, member),
+            Asked::Stop(member) => Ok(self.stop(alloc, member)),
             Asked::Later => Ok(self.answer(actor, Reply::Refused(Reason::NotYet))),
         }
     }

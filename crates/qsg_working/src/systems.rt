@@ -1,29 +1,16 @@
 //! A step of a system task.
 
-ghost use Rattle.std.specs.Prelude.{◌≡◌, true, false, not, IfOk, OnOk, OnErr, IsOk};
-ghost use Rattle.qsg_peers.specs.Peers.{peer_of, with_peer, in_hand};
-ghost use Rattle.qsg_step.specs.Steps.{peer_work_or, tallied};
+ghost use Rattle.std.specs.Prelude.{◌≡◌, true, IfOk, IfSome, OnErr, IsOk};
+ghost use Rattle.qsg_peers.specs.Peers.{peer_of};
+ghost use Rattle.qsg_step.specs.Steps.{tallied};
 
 use crate::working::Working;
 use qsg_disk::Disk;
 use qsg_num::Member;
 use qsg_peer::FailedLife;
-use qsg_peers::Peers;
 use qsg_step::Step;
 use qsg_tallies::Tallies;
 use std::alloc::{AllocError, Global};
-
-/// A system task without a work takes a new one in hand.
-fn begin(alloc: Global, peers: &mut Peers, member: Member) -> Result<(), AllocError>
-    ensures begun { OnOk result (peers.new ≡ with_peer member (in_hand (peer_work_or member (peer_of member peers.old).work) (peer_of member peers.old)) peers.old) }
-    ensures unchanged { OnErr result (peers.new ≡ peers.old) }
-    ensures idle { OnErr result ((peer_of member peers.old).work ≡ None) }
-{
-    if peers.is_busy(member) {
-        return Ok(());
-    }
-    peers.begin(alloc, member)
-}
 
 /// The mark that the system task of a member took off is counted.
 fn count(tallies: &mut Tallies, off: Option<FailedLife>, member: Member)
@@ -36,8 +23,10 @@ fn count(tallies: &mut Tallies, off: Option<FailedLife>, member: Member)
 
 impl<D: Disk> Working<D> {
     ghost use Rattle.qsg_parts.specs.Owned.{owned};
-    ghost use Rattle.qsg_peer.specs.Needs.{MayStepAt};
-    ghost use Rattle.qsg_step.specs.Steps.{peer_work_before, IsPeerStep, SystemSteps, IsUnmade};
+    ghost use Rattle.qsg_peers.specs.declared.work.SystemWork.{SystemWork};
+    ghost use Rattle.qsg_peers.specs.Works.{MayStep};
+    ghost use Rattle.qsg_peers.specs.Choosing.{has_work as has_system_work};
+    ghost use Rattle.qsg_step.specs.Steps.{system_work_before, SystemWorkSteps, SystemSteps, IsUnmade};
     ghost use Rattle.qsg_step.specs.Waiting.{has_work};
     ghost use Rattle.qsg_step.specs.declared.step.Step.TheVariants.{Moved};
     ghost use Rattle.qsg_working.specs.Needs.{system_needs_none, peer_needs_none};
@@ -45,7 +34,7 @@ impl<D: Disk> Working<D> {
 
     /// Makes the next step of the system task of a member.
     pub fn system(&mut self, alloc: Global, member: Member) -> Result<Step, AllocError>
-        requires may { has_work member (state_of self.old) ≡ true → MayStepAt (peer_work_before member (state_of self.old)).phase (owned self.old.parts) }
+        requires may { has_work member (state_of self.old) ≡ true → IfSome (system_work_before member (state_of self.old)) (λ (work : SystemWork). MayStep work (owned self.old.parts)) }
         ensures next { IfOk result (λ step. SystemSteps (has_work member (state_of self.old)) member (state_of self.old) step (state_of self.new)) }
         ensures unmade { OnErr result (IsUnmade (state_of self.old) (state_of self.new)) }
         ensures settles { system_needs_none member (state_of self.old) ≡ true → IsOk result }
@@ -58,14 +47,15 @@ impl<D: Disk> Working<D> {
 
     /// The same where it has work.
     fn work_on(&mut self, alloc: Global, member: Member) -> Result<Step, AllocError>
-        requires may { MayStepAt (peer_work_before member (state_of self.old)).phase (owned self.old.parts) }
-        ensures next { IfOk result (λ step. (step ≡ Moved) × IsPeerStep member (state_of self.old) (state_of self.new)) }
+        requires has { has_system_work member (peer_of member self.old.peers) (owned self.old.parts) ≡ true }
+        requires may { IfSome (system_work_before member (state_of self.old)) (λ (work : SystemWork). MayStep work (owned self.old.parts)) }
+        ensures next { IfOk result (λ step. (step ≡ Moved) × SystemWorkSteps (system_work_before member (state_of self.old)) member (state_of self.old) (state_of self.new)) }
         ensures unmade { OnErr result (IsUnmade (state_of self.old) (state_of self.new)) }
-        ensures settles { peer_needs_none (peer_of member self.old.peers).work ≡ true → IsOk result }
+        ensures settles { peer_needs_none (peer_of member self.old.peers) (owned self.old.parts) ≡ true → IsOk result }
     {
         self.peers.kept();
         let at = self.parts.history.len() as u64;
-        begin(alloc, &mut self.peers, member)?;
+        self.peers.begin(alloc, &self.parts, member)?;
         match self.peers.step(alloc, &mut self.parts, member, at) {
             Ok(off) => {
                 count(&mut self.tallies, off, member);

@@ -19,6 +19,15 @@ use qsg_objects::Directive;
 use qsg_requests::Cause;
 use qsg_step::{Asked, asks_for};
 
+/// The tasks of a member, in order.
+const TASKS: [TaskNo; 5] = [
+    TaskNo::System,
+    TaskNo::One,
+    TaskNo::Two,
+    TaskNo::Three,
+    TaskNo::Four,
+];
+
 fn is_commit(directive: &Directive) -> bool
     ensures { result ≡ is_commit directive.now }
 {
@@ -65,9 +74,9 @@ impl<D: Disk> Working<D> {
     ghost use Rattle.qsg_num.specs.declared.ids.Actor.TheVariants as actor;
     ghost use Rattle.qsg_step.specs.Reading.{members, reader_of as reader_among};
     ghost use Rattle.qsg_step.specs.States.{is_member_up, is_up, IsWithin};
-    ghost use Rattle.qsg_step.specs.Waiting.{told_to, needs_latch, busy, until, reading, cause_of, has_work, is_idle, is_member_idle};
+    ghost use Rattle.qsg_step.specs.Waiting.{told_to, needs_latch, busy, until, reading, is_in_use, is_busy, busy_task, quiescing, cause_of, has_work, is_idle, is_member_idle};
     ghost use Rattle.qsg_working.specs.Views.{state_of};
-    ghost use Rattle.qsg_working.specs.Ends.{wait_of, finds_work, are_systems_through, is_finished, are_idle, is_stuck};
+    ghost use Rattle.qsg_working.specs.Ends.{wait_of, are_systems_through, is_finished, are_idle, is_stuck};
 
     /// Why the step of an actor whose next directive asks for this waits, if it does.
     pub fn cause(&self, actor: Actor, asked: Asked) -> Option<Cause>
@@ -81,6 +90,7 @@ impl<D: Disk> Working<D> {
             Asked::Work(member, task) => Some(Cause::LogBusy(self.busy(member, task)?)),
             Asked::Until(who, answers) => self.until(who, answers),
             Asked::Start(member) => self.reading(member),
+            Asked::Stop(member) => self.quiescing(member),
             Asked::Crash(..) | Asked::Later => None,
         }
     }
@@ -143,6 +153,48 @@ impl<D: Disk> Working<D> {
         reader_of(&self.peers, member)
     }
 
+    /// Whether a task of a member has a unit with an operation, or a request in progress.
+    fn is_in_use(&self, member: Member, task: TaskNo) -> bool
+        requires { member_number member ≤ length self.now.parts.managers }
+        ensures { result ≡ is_in_use member task (state_of self.now) }
+    {
+        self.works.is_busy(member, task) || has_unit(&self.parts.managers, member, task)
+    }
+
+    /// Whether a task of a member is in use, or its system task has a work in hand.
+    fn is_busy(&self, member: Member, task: TaskNo) -> bool
+        requires { member_number member ≤ length self.now.parts.managers }
+        ensures { result ≡ is_busy member (state_of self.now) task }
+    {
+        match task {
+            TaskNo::System => self.peers.is_busy(member),
+            TaskNo::One | TaskNo::Two | TaskNo::Three | TaskNo::Four => {
+                self.is_in_use(member, task)
+            }
+        }
+    }
+
+    /// The least task of a member for which that is so.
+    fn busy_task(&self, member: Member) -> Option<TaskNo>
+        requires { member_number member ≤ length self.now.parts.managers }
+        ensures { result ≡ busy_task member (state_of self.now) }
+    {
+        TASKS
+            .iter()
+            .copied()
+            .find(|task| self.is_busy(member, *task))
+    }
+
+    /// The cause of waiting for the task that a STOP of a member would look at first.
+    fn quiescing(&self, member: Member) -> Option<Cause>
+        ensures { result ≡ quiescing member (state_of self.now) }
+    {
+        if !self.is_member_up(member) {
+            return None;
+        }
+        Some(Cause::Quiescing(self.busy_task(member)?))
+    }
+
     /// Whether the member of an actor is up. The operator has none, and is always there.
     fn is_up(&self, actor: Actor) -> bool
         ensures value { result ≡ is_up actor (state_of self.now) }
@@ -162,21 +214,11 @@ impl<D: Disk> Working<D> {
         member.index() < self.parts.managers.len() && self.parts.managers.manager(member).up
     }
 
-    /// Whether the system task of a member has work: its member is up, and it has one in hand or finds one.
+    /// Whether the system task of a member has work: its member is up, and it has one in hand or there is one to do.
     pub fn has_work(&self, member: Member) -> bool
         ensures { result ≡ has_work member (state_of self.now) }
     {
-        self.is_member_up(member) && (self.peers.is_busy(member) || self.finds_work(member))
-    }
-
-    /// Whether there is an unresolved incarnation that it hasn't given up.
-    fn finds_work(&self, member: Member) -> bool
-        ensures { result ≡ finds_work member (state_of self.now) }
-    {
-        self.parts
-            .repo
-            .first_failed(self.peers.given_up(member))
-            .is_some()
+        self.is_member_up(member) && self.peers.has_work(&self.parts, member)
     }
 
     /// Why an actor with work left waits, if it does. A system task never does.

@@ -8,6 +8,7 @@ use qsg_objects::{MemberDefs, Sizes};
 use qsg_parts::Parts;
 use qsg_peers::Peers;
 use qsg_start::StartWork;
+use qsg_stop::StopWork;
 use qsg_tallies::Tallies;
 use qsg_works::Works;
 
@@ -26,6 +27,8 @@ pub struct Working<D: Disk> {
     pub peers: Peers,
     /// The operator's START in progress.
     pub starting: Option<StartWork>,
+    /// The operator's STOP in progress.
+    pub stopping: Option<StopWork>,
     /// What is counted of incarnations that failed.
     pub tallies: Tallies,
     /// Its name.

@@ -10,11 +10,11 @@ use Rattle.qsg_requests.specs.declared.words.Request.TheVariants as request
 use Rattle.qsg_parts.specs.Owned.{Owned}
 use Rattle.qsg_put.specs.declared.phases.Phase.TheVariants as putting
 use Rattle.qsg_put.specs.Works.{Work as PutWork}
-use Rattle.qsg_put.specs.Steps.{next_put}
+use Rattle.qsg_put.specs.Steps.{NextPut as NextOfPut}
 use Rattle.qsg_put.specs.Needs.{MayStep as MayStepPut}
 use Rattle.qsg_get.specs.declared.phases.Phase.TheVariants as getting
 use Rattle.qsg_get.specs.Works.{Work as GetWork}
-use Rattle.qsg_get.specs.Steps.{next_get}
+use Rattle.qsg_get.specs.Next.{NextGet as NextOfGet}
 use Rattle.qsg_get.specs.Needs.{MayStep as MayStepGet}
 use Rattle.qsg_commit.specs.declared.phases.Phase.TheVariants as ending
 use Rattle.qsg_commit.specs.declared.phases.StepError.{StepError}
@@ -43,14 +43,15 @@ MayStep (Put work) p = MayStepPut work p
 MayStep (Get work) p = MayStepGet work p
 MayStep (Commit work) p = MayStepCommit work p
 
--- nothing is as before but the phase, which is as the definition of the step says; no step but a page of a log fails
+-- Nothing of a work changes but the phase, and no step but a page of a log fails. Where memory was wanting, a put and a
+-- get are as they were.
 abbrev pub NextPut : PutWork → Owned → Result Turn StepError → PutWork → Owned → Type 0
-NextPut old p (Ok turn) new q = (new ≡ record old { phase = new.phase }) × (record { turn = turn; phase = new.phase; parts = q } ≡ next_put old p)
+NextPut old p (Ok turn) new q = (new ≡ record old { phase = new.phase }) × NextOfPut old p (record { turn = turn; phase = new.phase; parts = q })
 NextPut old p (Err NoMemory) new q = (new ≡ old) × (q ≡ p)
 NextPut old p (Err LogFailed) new q = ⊥
 
 abbrev pub NextGet : GetWork → Owned → Result Turn StepError → GetWork → Owned → Type 0
-NextGet old p (Ok turn) new q = (new ≡ record old { phase = new.phase }) × (record { turn = turn; phase = new.phase; parts = q } ≡ next_get old p)
+NextGet old p (Ok turn) new q = NextOfGet old p (Ok turn) new q
 NextGet old p (Err NoMemory) new q = (new ≡ old) × (q ≡ p)
 NextGet old p (Err LogFailed) new q = ⊥
 

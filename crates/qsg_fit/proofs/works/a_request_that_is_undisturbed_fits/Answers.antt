@@ -1,5 +1,5 @@
-use Rattle.qsg_fit.proofs.Requests.{undisturbed_fits}
+use Rattle.qsg_fit.proofs.Undisturbed.{other_fits}
 use Rattle.qsg_fit.proofs.works.a_request_that_is_undisturbed_fits.Goals as goal
 
 pub returns : goal.returns
-returns c = undisturbed_fits
+returns c = other_fits

@@ -8,4 +8,4 @@ pub returns-clause-log : goal.returns-clause-log
 returns-clause-log c = log_left
 
 pub returns-clause-datasets : goal.returns-clause-datasets
-returns-clause-datasets c = λ k w p result v q next differ. sets_left k w p result v q next
+returns-clause-datasets c = sets_left

@@ -1,8 +1,11 @@
-use Rattle.qsg_start.proofs.Needing.{may_step, only_reads, still_may}
+use Rattle.qsg_start.proofs.Needing.{prepares, may_begin, may_step, still_may}
 use Rattle.qsg_start.proofs.laws.only_the_last_step_starts.Goals as goal
 
-pub returns-clause-reads : goal.returns-clause-reads
-returns-clause-reads c = only_reads
+pub returns-clause-stays : goal.returns-clause-stays
+returns-clause-stays c = prepares
+
+pub returns-clause-begins : goal.returns-clause-begins
+returns-clause-begins c = may_begin
 
 pub returns-clause-may : goal.returns-clause-may
 returns-clause-may c = may_step

@@ -1,6 +1,6 @@
 use Rattle.std.proofs.Common.{ap, ◌∙◌}
 use Rattle.std.specs.Option.{option_and_then}
-use Rattle.qsg_peer.specs.Reading.{reading_of}
+use Rattle.qsg_peers.specs.Works.{reading_of}
 use Rattle.qsg_peers.specs.Peers.{Peer}
 use Rattle.qsg_peers.proofs.Places.{held}
 use Rattle.qsg_peers.proofs.peers.Peers.reading.Goals as goal

@@ -1,0 +1,5 @@
+pub mod Pieces
+pub mod Using
+pub mod Calls
+pub mod Bodies
+pub mod Grounds
